@@ -1,0 +1,5 @@
+pub mod Bits
+pub mod Lists
+pub mod Laws
+pub mod Bytes
+pub mod Unique

@@ -1,0 +1,1 @@
+// Whole numbers behind hyperperiod, next release and quick bound.

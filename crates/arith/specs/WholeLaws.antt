@@ -1,8 +1,9 @@
--- The laws of `gcd`, `lcm` and `up`. Only the laws that come first in each part open a definition; the others cite those.
+-- The laws of `gcd`, `lcm` and `up`. Each part begins with the few that open the definition; all else cites those.
 use mathlib.Core.Path.{_≡_, sym, _∙_}
 use mathlib.Core.Logic.{⊎-elim}
 use Prim.Native.Nat.{ℕ, zero, suc, _+_, _-_, _*_, _/_, _%_, _≤_, _<_, _∣_}
-use native.Mathlib.Nat.{le-refl, le-trans, le-antisymm, zero-lt-suc, eq-zero-or-pos, mul-comm, mul-assoc, one-mul, mul-pos, mul-sub, mod-def, mod-lt, div-add-mod', mul-div-assoc, div-mul-cancel, dvd-refl, dvd-zero, dvd-antisymm, dvd-add, dvd-sub, dvd-mod-iff, dvd-mul-left, dvd-mul-right, dvd-mul-right-of-dvd, mul-dvd-mul-right, dvd-of-mul-dvd-mul-right, pos-of-dvd-of-pos, le-of-dvd, eq-zero-of-zero-dvd}
+use native.Mathlib.Nat.{le-refl, le-trans, le-antisymm, zero-lt-suc, eq-zero-or-pos, mul-comm, mul-assoc, one-mul, mul-pos, mul-sub, mod-def, mod-lt, div-add-mod', mul-div-assoc, div-mul-cancel}
+use native.Mathlib.Nat.{dvd-refl, dvd-zero, dvd-antisymm, dvd-add, dvd-sub, dvd-mod-iff, dvd-mul-left, dvd-mul-right, dvd-mul-right-of-dvd, mul-dvd-mul-right, dvd-of-mul-dvd-mul-right, pos-of-dvd-of-pos, le-of-dvd, eq-zero-of-zero-dvd}
 use native.Mathlib.Omega.{arith}
 use Rattle.arith.specs.Whole.{euclid, gcd, lcm, up}
 
@@ -82,6 +83,9 @@ lcm-least a b {m} p q = ⊎-elim (λ e. rw e (dvd-zero (lcm a b))) positive (eq-
 pub lcm-pos : (a b : ℕ) → 0 < a → 0 < b → 0 < lcm a b
 lcm-pos a b p q = pos-of-dvd-of-pos (lcm-least a b (dvd-mul-right a b) (dvd-mul-left b a)) (mul-pos p q)
 
+pub lcm-zero : (b : ℕ) → lcm 0 b ≡ 0
+lcm-zero b = eq-zero-of-zero-dvd (lcm-divides-left 0 b)
+
 -- Multiples lie g apart: where y is less than T above x, it is at most T - g above it.
 
 pub gap-multiple : (g : ℕ) {x y T : ℕ} → g ∣ x → g ∣ y → g ∣ T → y < x + T → y + g ≤ x + T
@@ -109,8 +113,8 @@ up-least zero {x} {m} d h = omega (arith, up-zero x)
 up-least (suc t) {x} {m} d h =
     omega (arith, gap-multiple (suc t) {x = m} d (up-divides (suc t) x) (dvd-refl (suc t)) (omega (arith, up-near (suc t) x (zero-lt-suc t))))
 
-pub up-unique : (T : ℕ) {x m : ℕ} → T ∣ m → x ≤ m → m < x + T → up T x ≡ m
-up-unique T {x} {m} d l h =
+pub up-is : (T : ℕ) {x m : ℕ} → T ∣ m → x ≤ m → m < x + T → up T x ≡ m
+up-is T {x} {m} d l h =
     le-antisymm (up-least T d l)
     (omega (arith, gap-multiple T {x = up T x} (up-divides T x) d (dvd-refl T) (omega (arith, up-above T x (omega arith)))))
 
@@ -120,10 +124,10 @@ up-mono (suc t) {x} {y} h = up-least (suc t) (up-divides (suc t) y) (le-trans h 
 
 pub up-fixed : (T : ℕ) {x : ℕ} → T ∣ x → up T x ≡ x
 up-fixed zero {x} d = up-zero x ∙ sym (eq-zero-of-zero-dvd d)
-up-fixed (suc t) {x} d = up-unique (suc t) d (le-refl x) (omega arith)
+up-fixed (suc t) {x} d = up-is (suc t) d (le-refl x) (omega arith)
 
 pub up-shift : (T x k : ℕ) → up T (x + k * T) ≡ up T x + k * T
 up-shift zero x k = omega (arith, up-zero x, up-zero (x + k * 0))
 up-shift (suc t) x k =
-    up-unique (suc t) (dvd-add (suc t) (up-divides (suc t) x) (dvd-mul-left (suc t) k)) (omega (arith, up-above (suc t) x (zero-lt-suc t)))
+    up-is (suc t) (dvd-add (suc t) (up-divides (suc t) x) (dvd-mul-left (suc t) k)) (omega (arith, up-above (suc t) x (zero-lt-suc t)))
     (omega (arith, up-near (suc t) x (zero-lt-suc t)))

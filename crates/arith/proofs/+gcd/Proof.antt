@@ -1,0 +1,39 @@
+-- With 0 the answer is the other number, and each step keeps the greatest common divisor while the second number falls.
+use mathlib.Core.Path.{sym, _∙_}
+use Prim.Native.Nat.{ℕ, _<_}
+use borrow.Fn.Kinds.{In}
+use borrow.Fn.PlainCycle.{Measures, is, falls, and}
+use borrow.Author.Needs.{needs}
+use native.Mathlib.Nat.{mod-lt}
+use native.Mathlib.Omega.{arith}
+use Rattle.arith.specs.WholeLaws.{gcd-zero, gcd-step}
+use Rattle.arith.proofs.gcd.Reads as gcd
+use Rattle.arith.proofs.gcd.Kinds as gcd-kinds
+use Rattle.arith.proofs.+gcd.Lts-gcd as gcd-lts
+use Rattle.arith.proofs.+gcd.{statement}
+use Rattle.arith.proofs.+gcd.Tie.{close}
+
+abbrev μ-gcd : Measures 0 gcd-kinds.ps ℕ
+μ-gcd κs a = a .1 .0
+
+abbrev gcd-at : ℕ → In 0 gcd-kinds.ps
+gcd-at t = and 0 gcd-kinds.ps (is 0 gcd-kinds.ps μ-gcd t) gcd.Pre
+
+abbrev gcd-below : ℕ → In 0 gcd-kinds.ps
+gcd-below t = and 0 gcd-kinds.ps (falls 0 gcd-kinds.ps _<_ μ-gcd t) gcd.Pre
+
+gcd-rem-gcd : (t : ℕ) → gcd-lts.Need-rem-gcd (gcd-below t, gcd.Post) (gcd-at t) gcd.Post
+gcd-rem-gcd t c = search needs
+
+gcd-gcd-requires : (t : ℕ) → gcd-lts.Need-gcd-requires (gcd-below t, gcd.Post) (gcd-at t) gcd.Post
+gcd-gcd-requires t c κs = (rw (← c .before .pre .0) (mod-lt _ (omega arith)), tt)
+
+gcd-returns : (t : ℕ) → gcd-lts.Need-returns (gcd-below t, gcd.Post) (gcd-at t) gcd.Post
+gcd-returns t c = rw (c .if1 .taken) (sym (gcd-zero _))
+
+gcd-returns-2 : (t : ℕ) → gcd-lts.Need-returns-2 (gcd-below t, gcd.Post) (gcd-at t) gcd.Post
+gcd-returns-2 t c = c .gcd .ensures ∙ sym (gcd-step _ _)
+
+pub +gcd-spec : {M : Type 1} → statement M
++gcd-spec =
+    close μ-gcd λ t. gcd-lts.spec (gcd-below t, gcd.Post) (gcd-at t) gcd.Post (gcd-rem-gcd t) (gcd-gcd-requires t) (gcd-returns t) (gcd-returns-2 t)

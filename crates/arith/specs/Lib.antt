@@ -1,0 +1,5 @@
+pub mod Whole
+pub mod WholeLaws
+pub mod Limit
+pub mod Unique
+pub mod Examples

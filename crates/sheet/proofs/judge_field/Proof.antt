@@ -1,0 +1,120 @@
+-- Each arm is the definition's clause for its field.
+use mathlib.Core.Path.{sym, ap, ap₂, _∙_}
+use Rattle.sheet.specs.Answers.{when}
+use Rattle.sheet.specs.Fields.{outside, judged}
+use borrow.Author.Needs.{needs}
+use Rattle.sheet.proofs.judge_field.Statement.{statement}
+use Rattle.sheet.proofs.judge_field.Tie as tie
+
+enum-told : tie.Need-enum-told
+enum-told c = search needs
+
+wide-requires : tie.Need-wide-requires
+wide-requires c κs = search needs
+
+ranged-requires : tie.Need-ranged-requires
+ranged-requires c κs = search needs
+
+enum-known-f : tie.Need-enum-known-f
+enum-known-f c = search needs
+
+task-of-requires : tie.Need-task-of-requires
+task-of-requires c κs = search needs
+
+ranged-requires-2 : tie.Need-ranged-requires-2
+ranged-requires-2 c κs = search needs
+
+enum-known-f-2 : tie.Need-enum-known-f-2
+enum-known-f-2 c = search needs
+
+task-of-requires-2 : tie.Need-task-of-requires-2
+task-of-requires-2 c κs = search needs
+
+ranged-requires-3 : tie.Need-ranged-requires-3
+ranged-requires-3 c κs = search needs
+
+enum-known-f-3 : tie.Need-enum-known-f-3
+enum-known-f-3 c = search needs
+
+fresh-requires : tie.Need-fresh-requires
+fresh-requires c κs = search needs
+
+enum-told-2 : tie.Need-enum-told-2
+enum-told-2 c = search needs
+
+wide-requires-2 : tie.Need-wide-requires-2
+wide-requires-2 c κs = search needs
+
+wide-requires-3 : tie.Need-wide-requires-3
+wide-requires-3 c κs = search needs
+
+ranged-requires-4 : tie.Need-ranged-requires-4
+ranged-requires-4 c κs = search needs
+
+enum-known-f-4 : tie.Need-enum-known-f-4
+enum-known-f-4 c = search needs
+
+judge-entry-requires : tie.Need-judge-entry-requires
+judge-entry-requires c κs = search needs
+
+returns : tie.Need-returns
+returns c =
+    let a = c .before .before .before .before .args in
+    c .ranged .ensures
+    ∙ ap (λ v. when (outside 1 16 v) 2) (c .before .wide .ensures)
+    ∙ sym (ap (judged (a .s)) (c .before .before .enum-told .given .1))
+
+returns-2 : tie.Need-returns-2
+returns-2 c =
+    let a = c .before .before .before .before .before .args in
+    c .ranged2 .ensures
+    ∙ ap (λ t. when (outside 1 100000 (t .period)) 3) (c .before .task-of .ensures)
+    ∙ sym (ap (judged (a .s)) (c .before .before .before .f .given .1))
+
+returns-3 : tie.Need-returns-3
+returns-3 c =
+    let a = c .before .before .before .before .before .args in
+    c .ranged3 .ensures
+    ∙ ap (λ t. when (outside 1 (t .period) (t .budget)) 4) (c .before .task-of2 .ensures)
+    ∙ sym (ap (judged (a .s)) (c .before .before .before .f2 .given .1))
+
+returns-4 : tie.Need-returns-4
+returns-4 c = c .fresh .ensures ∙ sym (ap (judged (c .before .before .before .before .args .s)) (c .before .before .f3 .given .1))
+
+returns-5 : tie.Need-returns-5
+returns-5 c =
+    let a = c .before .before .before .before .before .args in
+    c .ranged4 .ensures
+    ∙ ap₂ (λ n v. when (outside 1 n v) 6) (c .before .before .wide2 .ensures) (c .before .wide3 .ensures)
+    ∙ sym (ap (judged (a .s)) (c .before .before .before .enum-told2 .given .1))
+
+returns-6 : tie.Need-returns-6
+returns-6 c = c .judge-entry .ensures ∙ sym (ap (judged (c .before .before .before .before .args .s)) (c .before .before .f4 .given .1))
+
+pub judge-field-spec : {M : Type 1} → statement M
+judge-field-spec =
+    tie.close
+    (tie.spec
+    enum-told
+    wide-requires
+    ranged-requires
+    enum-known-f
+    task-of-requires
+    ranged-requires-2
+    enum-known-f-2
+    task-of-requires-2
+    ranged-requires-3
+    enum-known-f-3
+    fresh-requires
+    enum-told-2
+    wide-requires-2
+    wide-requires-3
+    ranged-requires-4
+    enum-known-f-4
+    judge-entry-requires
+    returns
+    returns-2
+    returns-3
+    returns-4
+    returns-5
+    returns-6)

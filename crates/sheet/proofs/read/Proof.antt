@@ -1,0 +1,103 @@
+-- The sheet that the bytes spell is judged field by field and at its end, and the first refusal is handed up.
+use mathlib.Core.Path.{_≡_, refl, sym, ap, _∙_}
+use mathlib.Core.List.{List}
+use Prim.Native.Nat.{ℕ}
+use Rattle.bits.specs.Bits.{unpack}
+use Rattle.sheet.specs.declared.Sheet.{Sheet}
+use Rattle.sheet.specs.declared.Reading.{Reading}
+use Rattle.sheet.specs.declared.Refusal.{Refusal}
+use Rattle.sheet.specs.declared.Verdict.{Verdict}
+use Rattle.sheet.specs.declared.Verdict.the-variants.{No}
+use Rattle.sheet.specs.Answers.{given, also}
+use Rattle.sheet.specs.AnswerLaws.{also-no, also-fine, sheetIn-no}
+use Rattle.sheet.specs.Calls.{tailOf, endOf, sheetOf, readAs, readOf}
+use Rattle.sheet.specs.Told.{refusal, toldSheet, blank, sheetIn}
+use borrow.Author.Needs.{needs}
+use Rattle.sheet.proofs.read.Statement.{statement}
+use Rattle.sheet.proofs.read.Tie as tie
+
+-- a refused reading
+no : (bytes : List ℕ) (s : Sheet) (v : Verdict) (r : Refusal) (x : Reading) → s ≡ sheetOf (unpack bytes) → readAs bytes s ≡ refusal r → v ≡ No r
+    → (x .verdict ≡ v) × (x .sheet ≡ blank) → (toldSheet x ≡ readOf bytes) × (x .sheet ≡ sheetIn (readOf bytes))
+unfolding readOf
+no bytes s v r x q h p w =
+    let e : readOf bytes ≡ refusal r = ap (readAs bytes) (sym q) ∙ h in
+    (also-no (given (x .sheet)) refl (w .0 ∙ p) ∙ sym e, w .1 ∙ sym (ap sheetIn e ∙ sheetIn-no r))
+
+spell-requires : tie.Need-spell-requires
+spell-requires c κs = search needs
+
+judge-fields-requires : tie.Need-judge-fields-requires
+judge-fields-requires c κs = search needs
+
+enum-told : tie.Need-enum-told
+enum-told c = search needs
+
+enum-told-2 : tie.Need-enum-told-2
+enum-told-2 c = search needs
+
+refused-requires : tie.Need-refused-requires
+refused-requires c κs = search needs
+
+returns : tie.Need-returns
+returns c =
+    let bytes = c .before .before .before .before .before .before .args .bytes .now in
+    let s = c .before .before .before .before .spell in
+    let p = c .before .enum-told2 .given .1 in
+    no bytes (s .result) _ _ (c .refused .result) (s .ensures)
+    (also-no (also (tailOf bytes (endOf (s .result))) (given (s .result))) (c .before .before .before .judge-fields .ensures) p) p (c .refused .ensures)
+
+end-of-requires : tie.Need-end-of-requires
+end-of-requires c κs = search needs
+
+judge-tail-requires : tie.Need-judge-tail-requires
+judge-tail-requires c κs = search needs
+
+enum-told-3 : tie.Need-enum-told-3
+enum-told-3 c = search needs
+
+enum-told-4 : tie.Need-enum-told-4
+enum-told-4 c = search needs
+
+refused-requires-2 : tie.Need-refused-requires-2
+refused-requires-2 c κs = search needs
+
+returns-2 : tie.Need-returns-2
+returns-2 c =
+    let bytes = c .before .before .before .before .before .before .before .before .before .before .args .bytes .now in
+    let s = c .before .before .before .before .before .before .before .before .spell in
+    let p = c .before .enum-told4 .given .1 in
+    no bytes (s .result) _ _ (c .refused2 .result) (s .ensures)
+    (also-fine (also (tailOf bytes (endOf (s .result))) (given (s .result))) (c .before .before .before .before .before .before .before .judge-fields .ensures) (c .before .before .before .before .before .enum-told .given .1)
+    ∙ also-no (given (s .result)) (c .before .before .before .judge-tail .ensures ∙ ap (tailOf bytes) (c .before .before .before .before .end-of .ensures)) p)
+    p (c .refused2 .ensures)
+
+returns-3 : tie.Need-returns-3
+unfolding readOf
+returns-3 c =
+    let bytes = c .before .before .before .before .before .before .before .before .before .args .bytes .now in
+    let s = c .before .before .before .before .before .before .before .spell in
+    let p = c .enum-told3 .given .1 in
+    let e : readOf bytes ≡ given (s .result) =
+    ap (readAs bytes) (sym (s .ensures))
+    ∙ also-fine (also (tailOf bytes (endOf (s .result))) (given (s .result))) (c .before .before .before .before .before .before .judge-fields .ensures) (c .before .before .before .before .enum-told .given .1)
+    ∙ also-fine (given (s .result)) (c .before .before .judge-tail .ensures ∙ ap (tailOf bytes) (c .before .before .before .end-of .ensures)) p in
+    (also-fine (given (s .result)) refl p ∙ sym e, sym (ap sheetIn e))
+
+pub read-spec : {M : Type 1} → statement M
+read-spec =
+    tie.close
+    (tie.spec
+    spell-requires
+    judge-fields-requires
+    enum-told
+    enum-told-2
+    refused-requires
+    returns
+    end-of-requires
+    judge-tail-requires
+    enum-told-3
+    enum-told-4
+    refused-requires-2
+    returns-2
+    returns-3)

@@ -1,0 +1,10 @@
+pub mod Answers
+pub mod Fields
+pub mod FieldLaws
+pub mod Calls
+pub mod PlaceLaws
+pub mod Told
+pub mod AnswerLaws
+pub mod EachLaws
+pub mod FormatLaws
+pub mod RoomLaws

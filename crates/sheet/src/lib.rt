@@ -1,0 +1,431 @@
+// The timing sheet: read from bytes, judged in memory, written to bytes.
+use theory::Task;
+ghost use mathlib.Core.Path.{_≡_};
+ghost use mathlib.Core.Bool.{Bool};
+ghost use mathlib.Core.List.{List};
+ghost use Prim.Native.Nat.{ℕ, _+_, _*_, _<_, _≤_, min};
+ghost use lib.ListN.{length, getD};
+ghost use lib.Seq.{sets};
+ghost use Rattle.bits.specs.Bits.{unpack};
+ghost use Rattle.theory.specs.Model.{none};
+ghost use Rattle.sheet.specs.Answers.{when, first};
+ghost use Rattle.sheet.specs.Fields.{width, place, value, opening, next, index, numbered, series, outside, among, judged};
+ghost use Rattle.sheet.specs.Calls.{places, fieldsOf, judgedIn, judgeOf, bitsOf, endOf, writeOf, bufferAfter, spelt, taskSpelt, entrySpelt, sheetOf, tailOf, readOf};
+ghost use Rattle.sheet.specs.Told.{told, toldSheet, toldBytes, refusalIn, blank, sheetIn};
+ghost use Rattle.sheet.specs.declared.Field.the-variants.{Entry};
+
+pub struct Sheet {
+    pub tasks: [Task; 16],
+    pub chain: [u8; 16],
+    pub count: u8,
+    pub length: u8,
+}
+
+// A number of document 01's table; 15 comes with the late task.
+pub enum Refusal {
+    Number(u8),
+    Late(u8),
+}
+
+pub enum Verdict {
+    Fine,
+    No(Refusal),
+}
+
+pub struct Reading {
+    pub verdict: Verdict,
+    pub sheet: Sheet,
+}
+
+pub enum Written {
+    Bytes(usize),
+    No(Refusal),
+}
+
+// A field of the sheet; those of a task and of the chain with their index.
+enum Field {
+    Count,
+    Period(u16),
+    Budget(u16),
+    Rank(u16),
+    Length,
+    Entry(u16),
+}
+
+fn wide(x: u8) -> u32
+    ensures { λ r. ⌜ r ≡ x ⌝ }
+{
+    x as u32
+}
+
+fn short(x: u8) -> u16
+    ensures { λ r. ⌜ (r ≡ x) × (r < 256) ⌝ }
+{
+    x as u16
+}
+
+fn long(x: u16) -> u32
+    ensures { λ r. ⌜ r ≡ x ⌝ }
+{
+    x as u32
+}
+
+fn width_of(f: Field) -> u32
+    ensures { λ r. ⌜ r ≡ width f ⌝ }
+{
+    match f {
+        Field::Count => 5,
+        Field::Period(_) => 17,
+        Field::Budget(_) => 17,
+        Field::Rank(_) => 8,
+        Field::Length => 5,
+        Field::Entry(_) => 4,
+    }
+}
+
+fn place_of(n: u16, f: Field) -> u32
+    ensures { λ r. ⌜ r ≡ place n f ⌝ }
+{
+    match f {
+        Field::Count => 0,
+        Field::Period(i) => 5 + 42 * long(i),
+        Field::Budget(i) => 22 + 42 * long(i),
+        Field::Rank(i) => 39 + 42 * long(i),
+        Field::Length => 5 + 42 * long(n),
+        Field::Entry(i) => 10 + 42 * long(n) + 4 * long(i),
+    }
+}
+
+fn task_of(s: Sheet, i: u16) -> Task
+    ensures { λ r. ⌜ r ≡ getD (s .tasks) i none ⌝ }
+{
+    if i < 16 {
+        let k = i as usize;
+        return s.tasks[k];
+    }
+    Task {
+        period: 0,
+        budget: 0,
+        rank: 0,
+    }
+}
+
+fn entry_of(s: Sheet, i: u16) -> u8
+    ensures { λ r. ⌜ r ≡ getD (s .chain) i 0 ⌝ }
+{
+    if i < 16 {
+        let k = i as usize;
+        return s.chain[k];
+    }
+    0
+}
+
+fn value_of(s: Sheet, f: Field) -> u32
+    ensures { λ r. ⌜ r ≡ value s f ⌝ }
+{
+    match f {
+        Field::Count => wide(s.count),
+        Field::Period(i) => task_of(s, i).period,
+        Field::Budget(i) => task_of(s, i).budget,
+        Field::Rank(i) => wide(task_of(s, i).rank),
+        Field::Length => wide(s.length),
+        Field::Entry(i) => wide(entry_of(s, i)),
+    }
+}
+
+fn opening_of(n: u16, i: u16) -> Field
+    ensures { λ r. ⌜ r ≡ opening n i ⌝ }
+{
+    if i < n {
+        return Field::Period(i);
+    }
+    Field::Length
+}
+
+// The field after a field, on a sheet of n tasks.
+fn next_of(n: u16, f: Field) -> Field
+    requires { ⌜ index f < 65535 ⌝ }
+    ensures { λ r. ⌜ r ≡ next n f ⌝ }
+{
+    match f {
+        Field::Count => opening_of(n, 0),
+        Field::Period(i) => Field::Budget(i),
+        Field::Budget(i) => Field::Rank(i),
+        Field::Rank(i) => opening_of(n, i + 1),
+        Field::Length => Field::Entry(0),
+        Field::Entry(i) => Field::Entry(i + 1),
+    }
+}
+
+// A chain entry's field, or a rank's.
+fn numbered_of(entry: bool, j: u16) -> Field
+    ensures { λ r. ⌜ r ≡ numbered entry j ⌝ }
+{
+    if entry {
+        return Field::Entry(j);
+    }
+    Field::Rank(j)
+}
+
+// The refusal of an entry, or a rank, that repeats an earlier one.
+fn fresh(number: u8, s: Sheet, entry: bool, i: u16) -> Verdict
+    ensures { λ r. ⌜ told r ≡ when (among (series s entry) i (series s entry i)) number ⌝ }
+{
+    let v = value_of(s, numbered_of(entry, i));
+    let mut j = i;
+    while 0 < j {
+        j -= 1;
+        if value_of(s, numbered_of(entry, j)) == v {
+            return Verdict::No(Refusal::Number(number));
+        }
+    }
+    Verdict::Fine
+}
+
+// The refusal of a value below or above its limits.
+fn ranged(number: u8, low: u32, high: u32, v: u32) -> Verdict
+    ensures { λ r. ⌜ told r ≡ when (outside low high v) number ⌝ }
+{
+    if v < low {
+        return Verdict::No(Refusal::Number(number));
+    }
+    if high < v {
+        return Verdict::No(Refusal::Number(number));
+    }
+    Verdict::Fine
+}
+
+fn judge_entry(s: Sheet, i: u16) -> Verdict
+    ensures { λ r. ⌜ told r ≡ judged s (Entry i) ⌝ }
+{
+    if s.count <= entry_of(s, i) {
+        return Verdict::No(Refusal::Number(7));
+    }
+    fresh(8, s, true, i)
+}
+
+fn judge_field(s: Sheet, f: Field) -> Verdict
+    ensures { λ r. ⌜ told r ≡ judged s f ⌝ }
+{
+    match f {
+        Field::Count => ranged(2, 1, 16, wide(s.count)),
+        Field::Period(i) => ranged(3, 1, 100000, task_of(s, i).period),
+        Field::Budget(i) => {
+            let t = task_of(s, i);
+            ranged(4, 1, t.period, t.budget)
+        }
+        Field::Rank(i) => fresh(5, s, false, i),
+        Field::Length => ranged(6, 1, wide(s.count), wide(s.length)),
+        Field::Entry(i) => judge_entry(s, i),
+    }
+}
+
+// The fields in order, in so many bytes.
+fn judge_fields(s: Sheet, len: usize) -> Verdict
+    ensures { λ r. ⌜ told r ≡ first (judgedIn (len * 8) s) (fieldsOf s) ⌝ }
+{
+    let n = short(s.count);
+    let mut f = Field::Count;
+    let mut left = 2 + 3 * n + short(s.length);
+    while 0 < left {
+        let end = place_of(n, f) + width_of(f);
+        if len < ((end + 7) / 8) as usize {
+            return Verdict::No(Refusal::Number(1));
+        }
+        let v = judge_field(s, f);
+        let Verdict::Fine = v else {
+            return v;
+        };
+        f = next_of(n, f);
+        left -= 1;
+    }
+    Verdict::Fine
+}
+
+// A sheet in memory, judged for 2 to 8 in the order of its fields.
+pub fn judge(s: Sheet) -> Verdict
+    ensures { λ r. ⌜ told r ≡ judgeOf s ⌝ }
+{
+    judge_fields(s, 2000)
+}
+
+// What the bytes hold in a field of a sheet of n tasks.
+fn spelt_at(bytes: &[u8], n: u16, f: Field) -> u32
+    ensures { λ r. ⌜ r ≡ spelt (unpack (now (bytes .entry))) n f ⌝ }
+{
+    bits::number(bytes, place_of(n, f), width_of(f))
+}
+
+fn task_at(bytes: &[u8], n: u16, i: u16) -> Task
+    ensures { λ r. ⌜ r ≡ taskSpelt (unpack (now (bytes .entry))) n i ⌝ }
+{
+    let period = spelt_at(bytes, n, Field::Period(i));
+    let budget = spelt_at(bytes, n, Field::Budget(i));
+    let rank = spelt_at(bytes, n, Field::Rank(i)) as u8;
+    Task {
+        period,
+        budget,
+        rank,
+    }
+}
+
+// The places that are taken of sixteen.
+fn taken(k: u16) -> u16
+    ensures { λ r. ⌜ r ≡ min k 16 ⌝ }
+{
+    if k < 16 {
+        return k;
+    }
+    16
+}
+
+fn tasks_at(bytes: &[u8], n: u16) -> [Task; 16]
+    ensures { λ r. ⌜ r ≡ places none n (taskSpelt (unpack (now (bytes .entry))) n) ⌝ }
+{
+    let blank = Task {
+        period: 0,
+        budget: 0,
+        rank: 0,
+    };
+    let mut tasks = [blank; 16];
+    let end = taken(n);
+    let mut i = 0u16;
+    while i < end {
+        let k = i as usize;
+        tasks[k] = task_at(bytes, n, i);
+        i += 1;
+    }
+    tasks
+}
+
+fn chain_at(bytes: &[u8], n: u16, m: u16) -> [u8; 16]
+    ensures { λ r. ⌜ r ≡ places 0 m (entrySpelt (unpack (now (bytes .entry))) n) ⌝ }
+{
+    let mut chain = [0u8; 16];
+    let end = taken(m);
+    let mut i = 0u16;
+    while i < end {
+        let k = i as usize;
+        chain[k] = spelt_at(bytes, n, Field::Entry(i)) as u8;
+        i += 1;
+    }
+    chain
+}
+
+// The sheet that the bytes spell, taken for granted.
+fn spell(bytes: &[u8]) -> Sheet
+    ensures { λ r. ⌜ r ≡ sheetOf (unpack (now (bytes .entry))) ⌝ }
+{
+    let n = spelt_at(bytes, 0, Field::Count) as u8;
+    let m = spelt_at(bytes, short(n), Field::Length) as u8;
+    let tasks = tasks_at(bytes, short(n));
+    let chain = chain_at(bytes, short(n), short(m));
+    Sheet {
+        tasks,
+        chain,
+        count: n,
+        length: m,
+    }
+}
+
+// What follows the last field.
+fn judge_tail(bytes: &[u8], end: u32) -> Verdict
+    requires { ⌜ end ≤ 65535 ⌝ }
+    ensures { λ r. ⌜ told r ≡ tailOf (now (bytes .entry)) end ⌝ }
+{
+    let size = (end + 7) / 8;
+    if (size as usize) < bytes.len() {
+        return Verdict::No(Refusal::Number(9));
+    }
+    if 0 < bits::number(bytes, end, size * 8 - end) {
+        return Verdict::No(Refusal::Number(9));
+    }
+    Verdict::Fine
+}
+
+// The bit after the last field.
+fn end_of(s: Sheet) -> u32
+    ensures { λ r. ⌜ r ≡ endOf s ⌝ }
+{
+    place_of(short(s.count), Field::Entry(short(s.length)))
+}
+
+fn refused(verdict: Verdict) -> Reading
+    ensures { λ r. ⌜ (r .verdict ≡ verdict) × (r .sheet ≡ blank) ⌝ }
+{
+    let none = Task {
+        period: 0,
+        budget: 0,
+        rank: 0,
+    };
+    let sheet = Sheet {
+        tasks: [none; 16],
+        chain: [0u8; 16],
+        count: 0,
+        length: 0,
+    };
+    Reading { verdict, sheet }
+}
+
+// The sheet that bytes hold; a blank sheet stands beside a refusal.
+pub fn read(bytes: &[u8]) -> Reading
+    ensures { λ r. ⌜ (toldSheet r ≡ readOf (now (bytes .entry))) × (r .sheet ≡ sheetIn (readOf (now (bytes .entry)))) ⌝ }
+{
+    let sheet = spell(bytes);
+    let fields = judge_fields(sheet, bytes.len());
+    let Verdict::Fine = fields else {
+        return refused(fields);
+    };
+    let tail = judge_tail(bytes, end_of(sheet));
+    let Verdict::Fine = tail else {
+        return refused(tail);
+    };
+    Reading {
+        verdict: tail,
+        sheet,
+    }
+}
+
+// The fields of a sheet in order, from the first bit on.
+fn put_fields(out: &mut [u8], s: Sheet)
+    ensures { λ r. ⌜ unpack (now (out .exit)) ≡ sets (unpack (now (out .entry))) 0 (bitsOf s (fieldsOf s)) ⌝ }
+{
+    let n = short(s.count);
+    let mut f = Field::Count;
+    let mut at = 0u32;
+    let mut left = 2 + 3 * n + short(s.length);
+    while 0 < left {
+        let width = width_of(f);
+        bits::put(&mut *out, at, width, value_of(s, f));
+        at += width;
+        f = next_of(n, f);
+        left -= 1;
+    }
+}
+
+fn refusal_in(v: Verdict) -> Refusal
+    ensures { λ r. ⌜ r ≡ refusalIn v ⌝ }
+{
+    match v {
+        Verdict::Fine => Refusal::Number(0),
+        Verdict::No(r) => r,
+    }
+}
+
+// The sheet's bytes at the front of a buffer, and how many they are.
+pub fn write(s: Sheet, out: &mut [u8]) -> Written
+    ensures { λ r. ⌜ (toldBytes r ≡ writeOf s (length (now (out .entry)))) × (now (out .exit) ≡ bufferAfter (toldBytes r) s (now (out .entry))) ⌝ }
+{
+    let v = judge(s);
+    let Verdict::Fine = v else {
+        return Written::No(refusal_in(v));
+    };
+    let end = end_of(s);
+    let size = (end + 7) / 8;
+    if out.len() < size as usize {
+        return Written::No(Refusal::Number(14));
+    }
+    put_fields(&mut *out, s);
+    bits::put(&mut *out, end, size * 8 - end, 0);
+    Written::Bytes(size as usize)
+}

@@ -8,3 +8,4 @@ pub mod AnswerLaws
 pub mod EachLaws
 pub mod FormatLaws
 pub mod RoomLaws
+pub mod Sound

@@ -114,3 +114,16 @@ number-set bs b at (suc w) k (suc e) h l =
       ap (λ x. one (getD bs (at + k) false) * x) (pow-suc 2 e),
       ap (λ x. one b * x) (pow-suc 2 e),
     )
+
+-- ---- zeros
+
+-- bits that are all 0 spell 0
+pub number-zero : (bs : List Bool) (at w : ℕ) → ((k : ℕ) → k < w → getD bs (at + k) false ≡ false) → number bs at w ≡ 0
+unfolding number
+number-zero bs at zero h = refl
+number-zero bs at (suc w) h = omega (arith, number-zero bs at w (λ k l. h k (omega arith)), ap one (h w (omega arith)))
+
+-- and only they do
+pub zero-number : (bs : List Bool) (at w k : ℕ) → number bs at w ≡ 0 → k < w → getD bs (at + k) false ≡ false
+zero-number bs at w k e h =
+    sym (number-bit bs at w k (w - 1 - k) (omega arith)) ∙ ap odd (ap (λ v. v / 2 ^ (w - 1 - k)) e ∙ zero-div (2 ^ (w - 1 - k)))

@@ -33,6 +33,9 @@ unfoldable pub bitsOf : Sheet → List Field → List Bool
 bitsOf s [] = []
 bitsOf s (f ∷ fs) = bits (width f) (value s f) ++ bitsOf s fs
 
+abbrev pub packed : Sheet → List Bool
+packed s = bitsOf s (fieldsOf s)
+
 -- The last field's end.
 abbrev pub endOf : Sheet → ℕ
 endOf s = place (s .count) (Entry (s .length))
@@ -46,7 +49,7 @@ writeOf s room = also (judgeOf s) (also (when (ltb room (sizeOf s)) 14) (given (
 
 -- "A written sheet leaves bytes past its length untouched"; a refusal leaves all of them.
 abbrev pub bufferAfter : Answer ℕ → Sheet → List ℕ → List ℕ
-bufferAfter (given size) s old = written (bitsOf s (fieldsOf s)) old
+bufferAfter (given size) s old = written (packed s) old
 bufferAfter (refused number values) s old = old
 
 -- ---- bytes read

@@ -9,3 +9,4 @@ pub mod EachLaws
 pub mod FormatLaws
 pub mod RoomLaws
 pub mod Sound
+pub mod RoundTrip

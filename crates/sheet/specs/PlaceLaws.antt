@@ -1,12 +1,12 @@
 -- Laws of the sixteen places.
-use mathlib.Core.Path.{_≡_, sym, ap, _∙_}
+use mathlib.Core.Path.{_≡_, sym, ap, _∙_, subst}
 use mathlib.Core.Logic.{_≢_}
-use mathlib.Core.Bool.{cond}
+use mathlib.Core.Bool.{Bool, true, false, cond}
 use Prim.Native.Nat.{ℕ, _+_, _<_, min}
 use native.Mathlib.Omega.{arith}
 use native.Mathlib.Decide.{ℕ-discrete, decLt}
 use lib.Dec.{ltb}
-use lib.ListN.{length, getD, set, length-set}
+use lib.ListN.{length, getD, set, length-set, List·getD-eq-default}
 use lib.Seq.{ext-getD, getD-set-same, getD-set-other}
 use borrow.Author.Tests.{lt-ltb, le-ltb}
 use Rattle.bits.specs.Bits.{listOf}
@@ -23,6 +23,18 @@ module _ {A : Type 0} (blank : A) (f : ℕ → A) where
   -- a place that is taken
   pub places-taken : (k i : ℕ) → i < k → i < 16 → getD (places blank k f) i blank ≡ f i
   places-taken k i h g = getD-places k i g ∙ ap (λ b. cond b (f i) blank) (lt-ltb i k h)
+
+  -- what holds of a blank and of every f i, holds in every place
+  pub places-every : (P : A → Type 0) (k : ℕ) → P blank → ((i : ℕ) → P (f i)) → (i : ℕ) → P (getD (places blank k f) i blank)
+  places-every P k b h i = go (decLt i 16)
+    where
+      either : (t : Bool) → P (cond t (f i) blank)
+      either true = h i
+      either false = b
+
+      go : Dec (i < 16) → P (getD (places blank k f) i blank)
+      go (yes l) = subst P (sym (getD-places k i l)) (either (ltb i k))
+      go (no l) = subst P (sym (List·getD-eq-default (places blank k f) blank (omega (arith, length-places k)))) b
 
   -- one more is taken
   pub places-set : (k : ℕ) → k < 16 → set (places blank k f) k (f k) ≡ places blank (k + 1) f

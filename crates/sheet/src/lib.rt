@@ -10,7 +10,7 @@ ghost use Rattle.bits.specs.Bits.{unpack};
 ghost use Rattle.theory.specs.Model.{none};
 ghost use Rattle.sheet.specs.Answers.{when, first};
 ghost use Rattle.sheet.specs.Fields.{width, place, value, opening, next, index, numbered, series, outside, among, judged};
-ghost use Rattle.sheet.specs.Calls.{places, fieldsOf, judgedIn, judgeOf, bitsOf, endOf, writeOf, bufferAfter, spelt, taskSpelt, entrySpelt, sheetOf, tailOf, readOf};
+ghost use Rattle.sheet.specs.Calls.{places, fieldsOf, judgedIn, judgeOf, packed, endOf, writeOf, bufferAfter, spelt, taskSpelt, entrySpelt, sheetOf, tailOf, readOf};
 ghost use Rattle.sheet.specs.Told.{told, toldSheet, toldBytes, refusalIn, blank, sheetIn};
 ghost use Rattle.sheet.specs.declared.Field.the-variants.{Entry};
 
@@ -388,7 +388,7 @@ pub fn read(bytes: &[u8]) -> Reading
 
 // The fields of a sheet in order, from the first bit on.
 fn put_fields(out: &mut [u8], s: Sheet)
-    ensures { λ r. ⌜ unpack (now (out .exit)) ≡ sets (unpack (now (out .entry))) 0 (bitsOf s (fieldsOf s)) ⌝ }
+    ensures { λ r. ⌜ unpack (now (out .exit)) ≡ sets (unpack (now (out .entry))) 0 (packed s) ⌝ }
 {
     let n = short(s.count);
     let mut f = Field::Count;

@@ -1,1 +1,4 @@
+pub mod Ranges
 pub mod Model
+pub mod Simulate
+pub mod Responses

@@ -2,3 +2,5 @@ pub mod Ranges
 pub mod Model
 pub mod Simulate
 pub mod Responses
+pub mod Work
+pub mod Backlog

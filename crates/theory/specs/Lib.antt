@@ -4,3 +4,5 @@ pub mod Simulate
 pub mod Responses
 pub mod Work
 pub mod Backlog
+pub mod Finish
+pub mod Existence

@@ -6,3 +6,4 @@ pub mod Work
 pub mod Backlog
 pub mod Finish
 pub mod Existence
+pub mod ResponseLaws

@@ -16,10 +16,12 @@ use Rattle.theory.specs.Work.{runs-self, runs-other, runs-most, runs-bus
 
 -- The sum of f over the level of task i, which is the tasks of rank at least its own.
 unfoldable pub level : List Task → ℕ → (ℕ → ℕ) → ℕ
+unfolding sum
 level ts i f = sum (length ts) (λ j. cond (leb (rank ts i) (rank ts j)) (f j) 0)
 
 -- The work of the level that is released at tick t.
 unfoldable pub load : List Task → Demands → ℕ → ℕ → ℕ
+unfolding level released
 load ts d i t = level ts i (λ j. released ts d j t)
 
 -- What is left before tick t where work comes in, a x of it at tick x, and one unit is done at each tick while there is any.
@@ -61,6 +63,11 @@ module _ (ts : List Task) (i : ℕ) where
   pub level-eq : (f g : ℕ → ℕ) → ((j : ℕ) → j < length ts → f j ≡ g j) → level ts i f ≡ level ts i g
   unfolding level
   level-eq f g h = sum-eq (length ts) _ _ (λ j l. ap (λ x. cond (leb (rank ts i) (rank ts j)) x 0) (h j l))
+
+  -- The level of the lowest rank is all tasks.
+  pub level-all : ((j : ℕ) → j < length ts → rank ts i ≤ rank ts j) → (f : ℕ → ℕ) → level ts i f ≡ sum (length ts) f
+  unfolding level
+  level-all lowest f = sum-eq (length ts) _ _ (λ j l. ap (λ b. cond b (f j) 0) (le-leb (rank ts i) (rank ts j) (lowest j l)))
 
   pub level-zero : level ts i (λ j. 0) ≡ 0
   unfolding level

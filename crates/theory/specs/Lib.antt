@@ -7,3 +7,7 @@ pub mod Backlog
 pub mod Finish
 pub mod Existence
 pub mod ResponseLaws
+pub mod Hyperperiod
+pub mod Repetition
+pub mod Idle
+pub mod NeverLater

@@ -114,6 +114,7 @@ until a (suc n) (suc b) t = suc (until a n (b + a t) (suc t))
 
 -- The ticks from the release of job k of task i until the backlog of its level is 0, or T + 1 where that is after the next release.
 unfoldable pub clearing : List Task → ℕ → ℕ → ℕ
+unfolding until load drain
 clearing ts i k = suc (until (load ts (full ts) i) (period ts i) (backlog ts (full ts) i (suc (k * period ts i))) (suc (k * period ts i)))
 
 module _ (a : ℕ → ℕ) where

@@ -27,6 +27,7 @@ response ts i k = finish ts i k - k * period ts i
 
 -- "The hyperperiod H is the least common multiple of all periods on the sheet."
 unfoldable pub hyperperiod : List Task → ℕ
+unfolding lcm
 hyperperiod [] = 1
 hyperperiod (x ∷ ts) = lcm (x .period) (hyperperiod ts)
 

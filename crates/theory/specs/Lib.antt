@@ -11,3 +11,5 @@ pub mod Hyperperiod
 pub mod Repetition
 pub mod Idle
 pub mod NeverLater
+pub mod Decision
+pub mod Examples

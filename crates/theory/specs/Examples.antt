@@ -1,0 +1,75 @@
+-- Trio, Radio and Quartet of document 01: accepted, with its figures and its rows of responses, by evaluation of the backlog.
+use mathlib.Core.Path.{_≡_, refl}
+use mathlib.Core.List.{List, [], _∷_}
+use mathlib.Core.Bool.{decide}
+use Prim.Native.Nat.{ℕ}
+use native.Mathlib.Omega.{arith}
+use lib.Dec.{T, ltb, eqb, ltb→lt, eqb→eq}
+use lib.ListN.{length}
+use Rattle.theory.specs.declared.Task.{Task}
+use Rattle.theory.specs.Ranges.{sum}
+use Rattle.theory.specs.Responses.{hyperperiod, jobs, allJobs, idleTicks, Accepted}
+use Rattle.theory.specs.Idle.{idle-adds-up}
+use Rattle.theory.specs.Decision.{decided, proper?, clears?, clears-accepted, Row, row?, cleared-row}
+
+-- A task (T, C, rank).
+abbrev pub task : ℕ → ℕ → ℕ → Task
+task period budget rank = record { period = period; budget = budget; rank = rank }
+
+abbrev pub trio : List Task
+trio = task 8 1 1 ∷ task 2 1 3 ∷ task 4 1 2 ∷ []
+
+abbrev pub radio : List Task
+radio = task 20 5 1 ∷ task 6 1 3 ∷ task 12 3 2 ∷ []
+
+abbrev pub quartet : List Task
+quartet = task 6 1 4 ∷ task 6 1 3 ∷ task 3 1 2 ∷ task 6 1 1 ∷ []
+
+-- Accepted
+
+accepted : (ts : List Task) → T (decide (proper? ts)) → T (decide (clears? ts)) → Accepted ts
+accepted ts good clears = clears-accepted (decided (proper? ts) good) (decided (clears? ts) clears)
+
+pub trio-accepted : Accepted trio
+unfolding decide proper? clears?
+trio-accepted = accepted trio tt tt
+
+pub radio-accepted : Accepted radio
+unfolding decide proper? clears?
+radio-accepted = accepted radio tt tt
+
+pub quartet-accepted : Accepted quartet
+unfolding decide proper? clears?
+quartet-accepted = accepted quartet tt tt
+
+-- Hyperperiod, jobs and idle ticks
+
+pub trio-figures : (hyperperiod trio ≡ 8) × (allJobs trio ≡ 7) × (idleTicks trio ≡ 1)
+unfolding hyperperiod allJobs sum
+trio-figures = (refl, refl, omega (arith, idle-adds-up trio-accepted))
+
+pub radio-figures : (hyperperiod radio ≡ 60) × (allJobs radio ≡ 18) × (idleTicks radio ≡ 20)
+unfolding hyperperiod allJobs sum
+radio-figures = (refl, refl, omega (arith, idle-adds-up radio-accepted))
+
+pub quartet-figures : (hyperperiod quartet ≡ 6) × (allJobs quartet ≡ 5) × (idleTicks quartet ≡ 1)
+unfolding hyperperiod allJobs sum
+quartet-figures = (refl, refl, omega (arith, idle-adds-up quartet-accepted))
+
+-- Rows
+
+row : {ts : List Task} → Accepted ts → (i : ℕ) (xs : List ℕ) → T (ltb i (length ts)) → T (eqb (length xs) (jobs ts i)) → T (decide (row? ts i xs)) → Row ts i xs
+row {ts} ok i xs known whole each =
+    cleared-row (ok .proper) i xs (ltb→lt i (length ts) known) (eqb→eq (length xs) (jobs ts i) whole) (decided (row? ts i xs) each)
+
+pub trio-rows : Row trio 0 (4 ∷ []) × Row trio 1 (1 ∷ 1 ∷ 1 ∷ 1 ∷ []) × Row trio 2 (2 ∷ 2 ∷ [])
+unfolding decide row? hyperperiod
+trio-rows = (row trio-accepted 0 _ tt tt tt, row trio-accepted 1 _ tt tt tt, row trio-accepted 2 _ tt tt tt)
+
+pub radio-rows : Row radio 0 (10 ∷ 9 ∷ 6 ∷ []) × Row radio 1 (1 ∷ 1 ∷ 1 ∷ 1 ∷ 1 ∷ 1 ∷ 1 ∷ 1 ∷ 1 ∷ 1 ∷ []) × Row radio 2 (4 ∷ 4 ∷ 4 ∷ 4 ∷ 4 ∷ [])
+unfolding decide row? hyperperiod
+radio-rows = (row radio-accepted 0 _ tt tt tt, row radio-accepted 1 _ tt tt tt, row radio-accepted 2 _ tt tt tt)
+
+pub quartet-rows : Row quartet 0 (1 ∷ []) × Row quartet 1 (2 ∷ []) × Row quartet 2 (3 ∷ 1 ∷ []) × Row quartet 3 (5 ∷ [])
+unfolding decide row? hyperperiod
+quartet-rows = (row quartet-accepted 0 _ tt tt tt, row quartet-accepted 1 _ tt tt tt, row quartet-accepted 2 _ tt tt tt, row quartet-accepted 3 _ tt tt tt)

@@ -2,6 +2,7 @@ pub mod Ranges
 pub mod Model
 pub mod Simulate
 pub mod Responses
+pub mod Chain
 pub mod Work
 pub mod Backlog
 pub mod Finish
@@ -11,5 +12,6 @@ pub mod Hyperperiod
 pub mod Repetition
 pub mod Idle
 pub mod NeverLater
+pub mod ChainLaws
 pub mod Decision
 pub mod Examples

@@ -113,6 +113,9 @@ module _ {ts : List Task} (ok : Accepted ts) where
     pub response-jobs : (k : ℕ) → response ts i k ≡ response ts i (k % jobs ts i)
     response-jobs k = ap (response ts i) (sym (turned k)) ∙ job-turns (k % jobs ts i) (k / jobs ts i) (early k) .1
 
+    pub response-again : (k : ℕ) → response ts i (k + jobs ts i) ≡ response ts i k
+    response-again k = job-again k (never-late k) .1
+
     -- "A job released at or after H has the response of the job released at its release modulo H."
     pub response-modulo : (k : ℕ) → response ts i k ≡ response ts i (k * period ts i % hyperperiod ts / period ts i)
     response-modulo k = response-jobs k ∙ ap (response ts i) (sym (ap (λ x. x / period ts i) release ∙ mul-div-cancel (k % jobs ts i) (ok .proper .period-positive i known)))

@@ -1,5 +1,5 @@
 -- Trio, Radio and Quartet of document 01: accepted, with its figures and its rows of responses, by evaluation of the backlog.
-use mathlib.Core.Path.{_≡_, refl}
+use mathlib.Core.Path.{_≡_, refl, _∙_}
 use mathlib.Core.List.{List, [], _∷_}
 use mathlib.Core.Bool.{decide}
 use Prim.Native.Nat.{ℕ}
@@ -7,10 +7,12 @@ use native.Mathlib.Omega.{arith}
 use lib.Dec.{T, ltb, eqb, ltb→lt, eqb→eq}
 use lib.ListN.{length}
 use Rattle.theory.specs.declared.Task.{Task}
-use Rattle.theory.specs.Ranges.{sum}
-use Rattle.theory.specs.Responses.{hyperperiod, jobs, allJobs, idleTicks, Accepted}
+use Rattle.theory.specs.Ranges.{sum, maximum}
+use Rattle.theory.specs.Responses.{response, taskResponse, hyperperiod, jobs, allJobs, idleTicks, Accepted}
 use Rattle.theory.specs.Idle.{idle-adds-up}
-use Rattle.theory.specs.Decision.{decided, proper?, clears?, clears-accepted, Row, row?, cleared-row}
+use Rattle.theory.specs.Evaluation.{chain?, worst-clearing, worst-release-clearing, bound-clearing, decided, proper?, clears?, clears-accepted, Row, row?, cleared-row}
+use Rattle.theory.specs.Chain.{worst, worstRelease, bound}
+use Rattle.theory.specs.ResponseLaws.{clearing}
 
 -- A task (T, C, rank).
 abbrev pub task : ℕ → ℕ → ℕ → Task
@@ -73,3 +75,35 @@ radio-rows = (row radio-accepted 0 _ tt tt tt, row radio-accepted 1 _ tt tt tt, 
 pub quartet-rows : Row quartet 0 (1 ∷ []) × Row quartet 1 (2 ∷ []) × Row quartet 2 (3 ∷ 1 ∷ []) × Row quartet 3 (5 ∷ [])
 unfolding decide row? hyperperiod
 quartet-rows = (row quartet-accepted 0 _ tt tt tt, row quartet-accepted 1 _ tt tt tt, row quartet-accepted 2 _ tt tt tt, row quartet-accepted 3 _ tt tt tt)
+
+-- The worst figure, its release and the quick bound of a chain
+
+pub record Figures (ts : List Task) (p : ℕ) (rest : List ℕ) (figure release quick : ℕ) : Type 0 where
+  pub is-worst : worst ts (response ts) p rest ≡ figure
+  pub is-release : worstRelease ts (response ts) p rest ≡ release
+  pub is-bound : bound ts (taskResponse ts) p rest ≡ quick
+
+figures : {ts : List Task} → Accepted ts → (p : ℕ) (rest : List ℕ) → T (decide (chain? ts p rest)) → {figure release quick : ℕ}
+    → worst ts (clearing ts) p rest ≡ figure → worstRelease ts (clearing ts) p rest ≡ release → bound ts (λ i. maximum (jobs ts i) (clearing ts i)) p rest ≡ quick
+    → Figures ts p rest figure release quick
+figures {ts} ok p rest chain w r b = record {
+  is-worst = worst-clearing (ok .proper) p rest (decided (chain? ts p rest) chain) ∙ w;
+  is-release = worst-release-clearing (ok .proper) p rest (decided (chain? ts p rest) chain) ∙ r;
+  is-bound = bound-clearing (ok .proper) p rest (decided (chain? ts p rest) chain) ∙ b;
+}
+
+pub trio-chain : Figures trio 0 (1 ∷ 2 ∷ []) 6 0 8
+unfolding decide chain? worst worstRelease bound clearing
+trio-chain = figures trio-accepted 0 (1 ∷ 2 ∷ []) tt refl refl refl
+
+pub radio-chain : Figures radio 0 (1 ∷ 2 ∷ []) 20 20 24
+unfolding decide chain? worst worstRelease bound clearing
+radio-chain = figures radio-accepted 0 (1 ∷ 2 ∷ []) tt refl refl refl
+
+pub radio-short-chain : Figures radio 0 (1 ∷ []) 13 0 15
+unfolding decide chain? worst worstRelease bound clearing
+radio-short-chain = figures radio-accepted 0 (1 ∷ []) tt refl refl refl
+
+pub quartet-chain : Figures quartet 2 (3 ∷ []) 8 3 8
+unfolding decide chain? worst worstRelease bound clearing
+quartet-chain = figures quartet-accepted 2 (3 ∷ []) tt refl refl refl

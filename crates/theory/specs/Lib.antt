@@ -13,5 +13,5 @@ pub mod Repetition
 pub mod Idle
 pub mod NeverLater
 pub mod ChainLaws
-pub mod Decision
+pub mod Evaluation
 pub mod Examples

@@ -1,6 +1,7 @@
--- Whether a list of tasks is proper, and accepted, is decided by evaluation; so is each row of responses.
-use mathlib.Core.Path.{_≡_, _∙_}
-use mathlib.Core.List.{List}
+-- What a list of tasks and a chain come to, by evaluation of the backlog: whether it is accepted, its rows of responses, the chain's figures.
+use mathlib.Core.Path.{_≡_, ap, _∙_, fun-ext}
+use mathlib.Core.Logic.{_≢_}
+use mathlib.Core.List.{List, [], _∷_}
 use mathlib.Core.Bool.{decide}
 use Prim.Native.Nat.{ℕ, zero, suc, _≤_, _<_}
 use native.Mathlib.Omega.{arith}
@@ -8,11 +9,13 @@ use native.Mathlib.Decide.{ℕ-discrete, decLe, decLt}
 use lib.Dec.{T}
 use lib.ListN.{length, getD}
 use Rattle.theory.specs.declared.Task.{Task}
-use Rattle.theory.specs.Ranges.{below-suc}
+use Rattle.theory.specs.Ranges.{maximum, below-suc}
 use Rattle.theory.specs.Model.{period, budget, rank, Proper}
-use Rattle.theory.specs.Responses.{response, hyperperiod, jobs, Accepted}
+use Rattle.theory.specs.Responses.{response, hyperperiod, jobs, taskResponse, Accepted}
 use Rattle.theory.specs.Hyperperiod.{released-jobs}
 use Rattle.theory.specs.ResponseLaws.{late-response, clearing, response-clearing}
+use Rattle.theory.specs.Chain.{Chain, delay, worst, worstRelease, bound}
+use Rattle.theory.specs.ChainLaws.{delay-same, worst-same, worst-release-same, bound-same}
 
 -- What is decided to hold holds.
 pub decided : {P : Type 0} (d : Dec P) → T (decide d) → P
@@ -71,3 +74,33 @@ row? ts i row = all? (jobs ts i) _ (λ k. ℕ-discrete (clearing ts i k) (getD r
 
 pub cleared-row : {ts : List Task} → Proper ts → (i : ℕ) (row : List ℕ) → i < length ts → length row ≡ jobs ts i → ((k : ℕ) → k < jobs ts i → clearing ts i k ≡ getD row k 0) → Row ts i row
 cleared-row good i row l whole each = record { whole = whole; each = λ k m. response-clearing good i k l ∙ each k m }
+
+-- The chain is one of the list.
+unfoldable pub chain? : (ts : List Task) (p : ℕ) (rest : List ℕ) → Dec (Chain ts p rest)
+unfolding decLt ℕ-discrete
+chain? ts p [] = decLt p (length ts)
+chain? ts p (c ∷ rest) = go (decLt p (length ts)) (ℕ-discrete p c) (chain? ts c rest)
+  where
+    go : Dec (p < length ts) → Dec (p ≡ c) → Dec (Chain ts c rest) → Dec ((p < length ts) × (p ≢ c) × Chain ts c rest)
+    go (yes l) (no e) (yes x) = yes (l, e, x)
+    go (no l) e x = no (λ y. l (y .0))
+    go (yes l) (yes e) x = no (λ y. y .1 e)
+    go (yes l) (no e) (no x) = no (λ y. x (y .2))
+
+-- A chain's figures are those by the clearing times.
+module _ {ts : List Task} (good : Proper ts) (p : ℕ) (rest : List ℕ) (chain : Chain ts p rest) where
+  cleared : (i k : ℕ) → i < length ts → response ts i k ≡ clearing ts i k
+  cleared i k l = response-clearing good i k l
+
+  pub delay-clearing : (r : ℕ) → delay ts (response ts) p rest r ≡ delay ts (clearing ts) p rest r
+  delay-clearing r = delay-same ts (response ts) (clearing ts) cleared p rest r chain
+
+  pub worst-clearing : worst ts (response ts) p rest ≡ worst ts (clearing ts) p rest
+  worst-clearing = worst-same ts (response ts) (clearing ts) cleared p rest chain
+
+  pub worst-release-clearing : worstRelease ts (response ts) p rest ≡ worstRelease ts (clearing ts) p rest
+  worst-release-clearing = worst-release-same ts (response ts) (clearing ts) cleared p rest chain
+
+  pub bound-clearing : bound ts (taskResponse ts) p rest ≡ bound ts (λ i. maximum (jobs ts i) (clearing ts i)) p rest
+  unfolding taskResponse
+  bound-clearing = bound-same ts (taskResponse ts) (λ i. maximum (jobs ts i) (clearing ts i)) (λ i l. ap (maximum (jobs ts i)) (fun-ext (λ k. cleared i k l))) p rest chain

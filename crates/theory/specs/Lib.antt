@@ -13,5 +13,8 @@ pub mod Repetition
 pub mod Idle
 pub mod NeverLater
 pub mod ChainLaws
+pub mod Paths
 pub mod Evaluation
 pub mod Examples
+pub mod Quartet
+pub mod Demand3

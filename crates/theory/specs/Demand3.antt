@@ -1,0 +1,88 @@
+-- Demand 3: no schedule exceeds the worst figure, the figure never exceeds the quick bound, and where ranks rise along the chain it is reached.
+use mathlib.Core.Path.{_≡_, ap, subst}
+use mathlib.Core.List.{List, [], _∷_}
+use Prim.Native.Nat.{ℕ, _+_, _*_, _/_, _≤_, _<_}
+use native.Mathlib.Nat.{le-refl, div-mul-le-self}
+use native.Mathlib.Omega.{arith}
+use lib.ListN.{length}
+use Rattle.theory.specs.declared.Task.{Task}
+use Rattle.theory.specs.Model.{period, Demands, Within, Run, Schedule}
+use Rattle.theory.specs.Responses.{full, response, hyperperiod, taskResponse, Accepted}
+use Rattle.theory.specs.Repetition.{response-again, response-greatest}
+use Rattle.theory.specs.Chain.{Chain, delay, worst, worstRelease, bound, PathEnds, Rising}
+use Rattle.theory.specs.ChainLaws.{chain-head, delay-worst, worst-bound, worst-release-job, worst-release-early, worst-release-delay, worst-release-least}
+use Rattle.theory.specs.Paths.{path-unique, path-within, path-exists, path-exact}
+use Rattle.theory.specs.Examples.{quartet, quartet-chain}
+use Rattle.theory.specs.Quartet.{quartet-path}
+
+-- A figure is the greatest delay of the chain over all releases of its first task, and a release the smallest that gives it; it is before H.
+pub record GreatestDelay (ts : List Task) (p : ℕ) (rest : List ℕ) (figure release : ℕ) : Type 0 where
+  pub greatest : (k : ℕ) → delay ts (response ts) p rest (k * period ts p) ≤ figure
+  pub given : delay ts (response ts) p rest release ≡ figure
+  pub first-task : release / period ts p * period ts p ≡ release
+  pub before : release < hyperperiod ts
+  pub smallest : (k : ℕ) → delay ts (response ts) p rest (k * period ts p) ≡ figure → release ≤ k * period ts p
+
+repeating : {ts : List Task} → Accepted ts → (p : ℕ) (rest : List ℕ) (k : ℕ) → Chain ts p rest → delay ts (response ts) p rest (k * period ts p) ≤ worst ts (response ts) p rest
+repeating {ts} accepted = delay-worst (accepted .proper) (response ts) (λ i m l. response-again accepted i l m)
+
+-- 1. No schedule exceeds the figure. For every accepted sheet, all demands of 1 to C, every run that is a schedule for them and every job
+-- of the chain's first task: its path exists, and ends no later than the worst figure after its release.
+pub no-schedule-exceeds :
+    (ts : List Task) (accepted : Accepted ts) (p : ℕ) (rest : List ℕ) (chain : Chain ts p rest)
+    (d : Demands) (within : Within ts d) (run : Run) (schedule : Schedule ts d run) (k : ℕ)
+    → ((f : ℕ) × PathEnds d run p rest k f) × ((f : ℕ) → PathEnds d run p rest k f → f ≤ k * period ts p + worst ts (response ts) p rest)
+no-schedule-exceeds ts accepted p rest chain d within run schedule k = (
+  path-exists accepted schedule within p rest chain k,
+  λ f path. omega (arith, path-within accepted schedule within p rest chain k k f (le-refl _) path, repeating accepted p rest k chain),
+)
+
+-- 2. The figure never exceeds the quick bound.
+pub worst-within-bound :
+    (ts : List Task) (accepted : Accepted ts) (p : ℕ) (rest : List ℕ) (chain : Chain ts p rest)
+    → worst ts (response ts) p rest ≤ bound ts (taskResponse ts) p rest
+worst-within-bound ts accepted p rest chain =
+    worst-bound (accepted .proper) (response ts) (taskResponse ts) (λ i k l. response-greatest accepted i l k) p rest chain
+
+-- 3. Where each task on the chain outranks the one before it, the full-budget schedule reaches the figure: the path of the job
+-- at the release that goes with it ends exactly the figure after that release.
+pub worst-reached :
+    (ts : List Task) (accepted : Accepted ts) (p : ℕ) (rest : List ℕ) (chain : Chain ts p rest) (rising : Rising ts p rest)
+    (run : Run) (schedule : Schedule ts (full ts) run)
+    → PathEnds (full ts) run p rest (worstRelease ts (response ts) p rest / period ts p) (worstRelease ts (response ts) p rest + worst ts (response ts) p rest)
+worst-reached ts accepted p rest chain rising run schedule =
+    subst (PathEnds (full ts) run p rest k) (omega (arith, job, ap (delay ts (response ts) p rest) job, gives)) (path-exact accepted schedule p rest chain rising k)
+  where
+    k : ℕ
+    k = worstRelease ts (response ts) p rest / period ts p
+
+    job : k * period ts p ≡ worstRelease ts (response ts) p rest
+    job = worst-release-job (accepted .proper) (response ts) p rest (chain-head ts p rest chain)
+
+    gives : delay ts (response ts) p rest (worstRelease ts (response ts) p rest) ≡ worst ts (response ts) p rest
+    gives = worst-release-delay (accepted .proper) (response ts) p rest (chain-head ts p rest chain)
+
+-- 4. The figure is the greatest delay over all releases of the first task, not only those before H, and its release the smallest that gives it.
+pub worst-of-all :
+    (ts : List Task) (accepted : Accepted ts) (p : ℕ) (rest : List ℕ) (chain : Chain ts p rest)
+    → GreatestDelay ts p rest (worst ts (response ts) p rest) (worstRelease ts (response ts) p rest)
+worst-of-all ts accepted p rest chain = record {
+  greatest = λ k. repeating accepted p rest k chain;
+  given = worst-release-delay (accepted .proper) (response ts) p rest known;
+  first-task = worst-release-job (accepted .proper) (response ts) p rest known;
+  before = worst-release-early (accepted .proper) (response ts) p rest known;
+  smallest = worst-release-least (accepted .proper) (response ts) p rest known;
+}
+  where
+    known : p < length ts
+    known = chain-head ts p rest chain
+
+-- 5. The figure need not be reached. In Quartet every demand is 1 and there is one schedule; its longest delay is 5, from release 0, where the figure is 8.
+pub quartet-not-reached :
+    (d : Demands) (within : Within quartet d) (run : Run) (schedule : Schedule quartet d run)
+    → (worst quartet (response quartet) 2 (3 ∷ []) ≡ 8) × PathEnds d run 2 (3 ∷ []) 0 5 × ((k f : ℕ) → PathEnds d run 2 (3 ∷ []) k f → f ≤ k * 3 + 5)
+quartet-not-reached d within run schedule = (
+  quartet-chain .is-worst,
+  quartet-path within schedule 0,
+  λ k f path. omega (arith, path-unique d run 2 (3 ∷ []) k f (k / 2 * 6 + 5) path (quartet-path within schedule k), div-mul-le-self k 2),
+)

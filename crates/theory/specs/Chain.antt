@@ -3,13 +3,13 @@
 use mathlib.Core.Logic.{_≢_}
 use mathlib.Core.List.{List, [], _∷_}
 use mathlib.Core.Bool.{Bool, cond}
-use Prim.Native.Nat.{ℕ, _+_, _-_, _*_, _/_, _≤_, _<_}
+use Prim.Native.Nat.{ℕ, _+_, _-_, _/_, _≤_, _<_}
 use lib.Dec.{ltb, eqb}
 use lib.ListN.{length}
 use Rattle.arith.specs.Whole.{gcd, up}
 use Rattle.theory.specs.declared.Task.{Task}
 use Rattle.theory.specs.Ranges.{maximum, least}
-use Rattle.theory.specs.Model.{period, rank, Demands, Run, Starts, Finishes}
+use Rattle.theory.specs.Model.{period, release, rank, Demands, Run, Starts, Finishes}
 use Rattle.theory.specs.Responses.{hyperperiod, jobs}
 
 -- The entries of a chain are tasks of the list, and neighbours differ (on a sheet no entry stands twice).
@@ -41,12 +41,12 @@ delay ts table p (c ∷ rest) r = (nextRelease ts table p c r - r) + delay ts ta
 -- "The worst figure is the greatest delay over the first task's releases in 0 to H − 1.
 unfoldable pub worst : List Task → Table → ℕ → List ℕ → ℕ
 unfolding maximum delay hyperperiod
-worst ts table p rest = maximum (jobs ts p) (λ k. delay ts table p rest (k * period ts p))
+worst ts table p rest = maximum (jobs ts p) (λ k. delay ts table p rest (release ts p k))
 
 -- With it goes the smallest release that gives it."
 unfoldable pub worstRelease : List Task → Table → ℕ → List ℕ → ℕ
 unfolding least worst
-worstRelease ts table p rest = least (jobs ts p) (λ k. eqb (delay ts table p rest (k * period ts p)) (worst ts table p rest)) * period ts p
+worstRelease ts table p rest = release ts p (least (jobs ts p) (λ k. eqb (delay ts table p rest (release ts p k)) (worst ts table p rest)))
 
 -- "The quick bound: for each neighbouring pair let g be the greatest common divisor of the two periods. Add T of c, less g. If c outranks p
 -- add also the least multiple of g that is at least R of p. Last, add R of the chain's last task." R i is that of task i, `taskResponse ts i`.

@@ -14,7 +14,7 @@ use Rattle.arith.specs.Whole.{up}
 use Rattle.arith.specs.WholeLaws.{gcd-divides-left, gcd-divides-right, gcd-pos, gap-multiple, up-divides, up-above, up-near, up-mono, up-shift}
 use Rattle.theory.specs.declared.Task.{Task}
 use Rattle.theory.specs.Ranges.{maximum, least, maximum-above, maximum-least, maximum-reached, least-passes, least-first}
-use Rattle.theory.specs.Model.{period, rank, Proper}
+use Rattle.theory.specs.Model.{period, release, rank, Proper}
 use Rattle.theory.specs.Responses.{hyperperiod, jobs}
 use Rattle.theory.specs.Hyperperiod.{jobs-whole, jobs-positive, jobs-released}
 use Rattle.theory.specs.Chain.{Chain, outranks, Table, nextRelease, delay, worst, worstRelease, common, bound}
@@ -35,7 +35,7 @@ module _ (ts : List Task) (table : Table) (p c r : ℕ) where
   next-outranked lower = rw (le-ltb (rank ts p) (rank ts c) lower)
 
   -- It is the release of a job of c,
-  pub next-job : nextRelease ts table p c r / period ts c * period ts c ≡ nextRelease ts table p c r
+  pub next-job : release ts c (nextRelease ts table p c r / period ts c) ≡ nextRelease ts table p c r
   unfolding nextRelease
   next-job = div-mul-cancel (period ts c) (up-divides (period ts c) _)
 
@@ -57,22 +57,22 @@ module _ (ts : List Task) (table : Table) (p c r : ℕ) where
 
 module _ {ts : List Task} (good : Proper ts) (table : Table) (p : ℕ) (rest : List ℕ) (known : p < length ts) where
   is-worst : ℕ → Bool
-  is-worst k = eqb (delay ts table p rest (k * period ts p)) (worst ts table p rest)
+  is-worst k = eqb (delay ts table p rest (release ts p k)) (worst ts table p rest)
 
-  first-worst : (least (jobs ts p) is-worst < jobs ts p) × (delay ts table p rest (least (jobs ts p) is-worst * period ts p) ≡ worst ts table p rest)
+  first-worst : (least (jobs ts p) is-worst < jobs ts p) × (delay ts table p rest (release ts p (least (jobs ts p) is-worst)) ≡ worst ts table p rest)
   unfolding worst is-worst
   first-worst = (early, eqb-true _ _ (least-passes (jobs ts p) is-worst early))
     where
-      x : (k : ℕ) × (k < jobs ts p) × (delay ts table p rest (k * period ts p) ≡ worst ts table p rest)
-      x = maximum-reached (jobs ts p) (λ k. delay ts table p rest (k * period ts p)) (jobs-positive good p known)
+      x : (k : ℕ) × (k < jobs ts p) × (delay ts table p rest (release ts p k) ≡ worst ts table p rest)
+      x = maximum-reached (jobs ts p) (λ k. delay ts table p rest (release ts p k)) (jobs-positive good p known)
 
       early : least (jobs ts p) is-worst < jobs ts p
       early = omega (arith, least-first (jobs ts p) is-worst (x .0) (eq-eqb _ _ (x .2)), x .1)
 
   -- It is the release of a job of p before H, and gives the worst figure,
-  pub worst-release-job : worstRelease ts table p rest / period ts p * period ts p ≡ worstRelease ts table p rest
+  pub worst-release-job : release ts p (worstRelease ts table p rest / period ts p) ≡ worstRelease ts table p rest
   unfolding worstRelease is-worst
-  worst-release-job = ap (λ x. x * period ts p) (mul-div-cancel (least (jobs ts p) is-worst) (good .period-positive p known))
+  worst-release-job = ap (release ts p) (mul-div-cancel (least (jobs ts p) is-worst) (good .period-positive p known))
 
   pub worst-release-early : worstRelease ts table p rest < hyperperiod ts
   unfolding worstRelease is-worst
@@ -83,7 +83,7 @@ module _ {ts : List Task} (good : Proper ts) (table : Table) (p : ℕ) (rest : L
   worst-release-delay = first-worst .1
 
   -- and is the smallest of all releases that do.
-  pub worst-release-least : (k : ℕ) → delay ts table p rest (k * period ts p) ≡ worst ts table p rest → worstRelease ts table p rest ≤ k * period ts p
+  pub worst-release-least : (k : ℕ) → delay ts table p rest (release ts p k) ≡ worst ts table p rest → worstRelease ts table p rest ≤ release ts p k
   unfolding worstRelease is-worst
   worst-release-least k e = mul-le-mul-right (period ts p) (least-first (jobs ts p) is-worst k (eq-eqb _ _ e))
 
@@ -120,10 +120,10 @@ module _ {ts : List Task} (good : Proper ts) (table : Table) (repeats : (i k : �
   delay-turns p rest r (suc m) l = ap (delay ts table p rest) (omega arith) ∙ delay-again p rest (r + m * hyperperiod ts) l ∙ delay-turns p rest r m l
 
   -- The worst figure is the greatest delay over all releases of the first task.
-  pub delay-worst : (p : ℕ) (rest : List ℕ) (k : ℕ) → Chain ts p rest → delay ts table p rest (k * period ts p) ≤ worst ts table p rest
+  pub delay-worst : (p : ℕ) (rest : List ℕ) (k : ℕ) → Chain ts p rest → delay ts table p rest (release ts p k) ≤ worst ts table p rest
   unfolding worst
-  delay-worst p rest k l = rw (ap (delay ts table p rest) parts ∙ delay-turns p rest (k % n * period ts p) (k / n) l)
-      (maximum-above n (λ k. delay ts table p rest (k * period ts p)) (k % n) (mod-lt k (jobs-positive good p known)))
+  delay-worst p rest k l = rw (ap (delay ts table p rest) parts ∙ delay-turns p rest (release ts p (k % n)) (k / n) l)
+      (maximum-above n (λ k. delay ts table p rest (release ts p k)) (k % n) (mod-lt k (jobs-positive good p known)))
     where
       n : ℕ
       n = jobs ts p
@@ -131,8 +131,8 @@ module _ {ts : List Task} (good : Proper ts) (table : Table) (repeats : (i k : �
       known : p < length ts
       known = chain-head ts p rest l
 
-      parts : k * period ts p ≡ k % n * period ts p + k / n * hyperperiod ts
-      parts = ap (λ x. x * period ts p) (sym (div-add-mod' k n)) ∙ omega (arith, ap (λ x. k / n * x) (jobs-whole good p known))
+      parts : release ts p k ≡ release ts p (k % n) + k / n * hyperperiod ts
+      parts = ap (release ts p) (sym (div-add-mod' k n)) ∙ omega (arith, ap (λ x. k / n * x) (jobs-whole good p known))
 
 -- The quick bound
 
@@ -142,11 +142,11 @@ up-gap g T y positive dT dy = gap-multiple g dy (dvd-trans g dT (up-divides T y)
 
 module _ {ts : List Task} (good : Proper ts) (table : Table) (R : ℕ → ℕ) (greatest : (i k : ℕ) → i < length ts → table i k ≤ R i) where
   next-bound : (p c k : ℕ) → p < length ts → c < length ts
-      → nextRelease ts table p c (k * period ts p) + common ts p c ≤ k * period ts p + period ts c + cond (outranks ts c p) (up (common ts p c) (R p)) 0
+      → nextRelease ts table p c (release ts p k) + common ts p c ≤ release ts p k + period ts c + cond (outranks ts c p) (up (common ts p c) (R p)) 0
   next-bound p c k lp lc = go (outranks ts c p) refl
     where
       r : ℕ
-      r = k * period ts p
+      r = release ts p k
 
       g : ℕ
       g = common ts p c
@@ -173,15 +173,15 @@ module _ {ts : List Task} (good : Proper ts) (table : Table) (R : ℕ → ℕ) (
       go false e = omega (arith, next-outranked ts table p c r (ltb-false (rank ts p) (rank ts c) e), up-gap g (period ts c) r positive dT dr)
 
   -- No delay exceeds it,
-  pub delay-bound : (p : ℕ) (rest : List ℕ) (k : ℕ) → Chain ts p rest → delay ts table p rest (k * period ts p) ≤ bound ts R p rest
+  pub delay-bound : (p : ℕ) (rest : List ℕ) (k : ℕ) → Chain ts p rest → delay ts table p rest (release ts p k) ≤ bound ts R p rest
   unfolding delay bound
-  delay-bound p [] k l = greatest p (k * period ts p / period ts p) l
+  delay-bound p [] k l = greatest p (release ts p k / period ts p) l
   delay-bound p (c ∷ rest) k l =
       omega (
         arith,
         next-bound p c k (l .0) lc,
         le-of-dvd (good .period-positive c lc) (gcd-divides-right (period ts p) (period ts c)),
-        rw (next-job ts table p c (k * period ts p)) at (delay-bound c rest (nextRelease ts table p c (k * period ts p) / period ts c) (l .2)),
+        rw (next-job ts table p c (release ts p k)) at (delay-bound c rest (nextRelease ts table p c (release ts p k) / period ts c) (l .2)),
       )
     where
       lc : c < length ts
@@ -190,7 +190,7 @@ module _ {ts : List Task} (good : Proper ts) (table : Table) (R : ℕ → ℕ) (
   -- and so neither does the worst.
   pub worst-bound : (p : ℕ) (rest : List ℕ) → Chain ts p rest → worst ts table p rest ≤ bound ts R p rest
   unfolding worst
-  worst-bound p rest l = maximum-least (jobs ts p) (λ k. delay ts table p rest (k * period ts p)) (bound ts R p rest) (λ k h. delay-bound p rest k l)
+  worst-bound p rest l = maximum-least (jobs ts p) (λ k. delay ts table p rest (release ts p k)) (bound ts R p rest) (λ k h. delay-bound p rest k l)
 
 -- Figures by equal responses are equal
 
@@ -206,12 +206,12 @@ module _ (ts : List Task) (table table′ : Table) (same : (i k : ℕ) → i < l
 
   pub worst-same : (p : ℕ) (rest : List ℕ) → Chain ts p rest → worst ts table p rest ≡ worst ts table′ p rest
   unfolding worst
-  worst-same p rest l = ap (maximum (jobs ts p)) (fun-ext (λ k. delay-same p rest (k * period ts p) l))
+  worst-same p rest l = ap (maximum (jobs ts p)) (fun-ext (λ k. delay-same p rest (release ts p k) l))
 
   pub worst-release-same : (p : ℕ) (rest : List ℕ) → Chain ts p rest → worstRelease ts table p rest ≡ worstRelease ts table′ p rest
   unfolding worstRelease
   worst-release-same p rest l =
-      ap (λ test. least (jobs ts p) test * period ts p) (fun-ext (λ k. ap₂ eqb (delay-same p rest (k * period ts p) l) (worst-same p rest l)))
+      ap (λ test. release ts p (least (jobs ts p) test)) (fun-ext (λ k. ap₂ eqb (delay-same p rest (release ts p k) l) (worst-same p rest l)))
 
 pub bound-same : (ts : List Task) (R R′ : ℕ → ℕ) → ((i : ℕ) → i < length ts → R i ≡ R′ i) → (p : ℕ) (rest : List ℕ) → Chain ts p rest → bound ts R p rest ≡ bound ts R′ p rest
 unfolding bound

@@ -6,24 +6,24 @@ use native.Mathlib.Nat.{le-refl, div-mul-le-self}
 use native.Mathlib.Omega.{arith}
 use lib.ListN.{length}
 use Rattle.theory.specs.declared.Task.{Task}
-use Rattle.theory.specs.Model.{period, Demands, Within, Run, Schedule}
-use Rattle.theory.specs.Responses.{full, response, hyperperiod, taskResponse, Accepted}
+use Rattle.theory.specs.Model.{period, release, Demands, Within, Run, Schedule}
+use Rattle.theory.specs.Responses.{full, fullBudget, response, hyperperiod, taskResponse, Accepted}
 use Rattle.theory.specs.Repetition.{response-again, response-greatest}
 use Rattle.theory.specs.Chain.{Chain, delay, worst, worstRelease, bound, PathEnds, Rising}
 use Rattle.theory.specs.ChainLaws.{chain-head, delay-worst, worst-bound, worst-release-job, worst-release-early, worst-release-delay, worst-release-least}
 use Rattle.theory.specs.Paths.{path-unique, path-within, path-exists, path-exact}
 use Rattle.theory.specs.Examples.{quartet, quartet-chain}
-use Rattle.theory.specs.Quartet.{quartet-path}
+use Rattle.theory.specs.Quartet.{quartet-run, quartet-path}
 
 -- A figure is the greatest delay of the chain over all releases of its first task, and a release the smallest that gives it; it is before H.
-pub record GreatestDelay (ts : List Task) (p : ℕ) (rest : List ℕ) (figure release : ℕ) : Type 0 where
-  pub greatest : (k : ℕ) → delay ts (response ts) p rest (k * period ts p) ≤ figure
-  pub given : delay ts (response ts) p rest release ≡ figure
-  pub first-task : release / period ts p * period ts p ≡ release
-  pub before : release < hyperperiod ts
-  pub smallest : (k : ℕ) → delay ts (response ts) p rest (k * period ts p) ≡ figure → release ≤ k * period ts p
+pub record GreatestDelay (ts : List Task) (p : ℕ) (rest : List ℕ) (figure at : ℕ) : Type 0 where
+  pub greatest : (k : ℕ) → delay ts (response ts) p rest (release ts p k) ≤ figure
+  pub given : delay ts (response ts) p rest at ≡ figure
+  pub first-task : release ts p (at / period ts p) ≡ at
+  pub before : at < hyperperiod ts
+  pub smallest : (k : ℕ) → delay ts (response ts) p rest (release ts p k) ≡ figure → at ≤ release ts p k
 
-repeating : {ts : List Task} → Accepted ts → (p : ℕ) (rest : List ℕ) (k : ℕ) → Chain ts p rest → delay ts (response ts) p rest (k * period ts p) ≤ worst ts (response ts) p rest
+repeating : {ts : List Task} → Accepted ts → (p : ℕ) (rest : List ℕ) (k : ℕ) → Chain ts p rest → delay ts (response ts) p rest (release ts p k) ≤ worst ts (response ts) p rest
 repeating {ts} accepted = delay-worst (accepted .proper) (response ts) (λ i m l. response-again accepted i l m)
 
 -- 1. No schedule exceeds the figure. For every accepted sheet, all demands of 1 to C, every run that is a schedule for them and every job
@@ -31,7 +31,7 @@ repeating {ts} accepted = delay-worst (accepted .proper) (response ts) (λ i m l
 pub no-schedule-exceeds :
     (ts : List Task) (accepted : Accepted ts) (p : ℕ) (rest : List ℕ) (chain : Chain ts p rest)
     (d : Demands) (within : Within ts d) (run : Run) (schedule : Schedule ts d run) (k : ℕ)
-    → ((f : ℕ) × PathEnds d run p rest k f) × ((f : ℕ) → PathEnds d run p rest k f → f ≤ k * period ts p + worst ts (response ts) p rest)
+    → ((f : ℕ) × PathEnds d run p rest k f) × ((f : ℕ) → PathEnds d run p rest k f → f ≤ release ts p k + worst ts (response ts) p rest)
 no-schedule-exceeds ts accepted p rest chain d within run schedule k = (
   path-exists accepted schedule within p rest chain k,
   λ f path. omega (arith, path-within accepted schedule within p rest chain k k f (le-refl _) path, repeating accepted p rest k chain),
@@ -56,7 +56,7 @@ worst-reached ts accepted p rest chain rising run schedule =
     k : ℕ
     k = worstRelease ts (response ts) p rest / period ts p
 
-    job : k * period ts p ≡ worstRelease ts (response ts) p rest
+    job : release ts p k ≡ worstRelease ts (response ts) p rest
     job = worst-release-job (accepted .proper) (response ts) p rest (chain-head ts p rest chain)
 
     gives : delay ts (response ts) p rest (worstRelease ts (response ts) p rest) ≡ worst ts (response ts) p rest
@@ -77,12 +77,16 @@ worst-of-all ts accepted p rest chain = record {
     known : p < length ts
     known = chain-head ts p rest chain
 
--- 5. The figure need not be reached. In Quartet every demand is 1 and there is one schedule; its longest delay is 5, from release 0, where the figure is 8.
+-- 5. The figure need not be reached. Quartet has one schedule, whatever the demands within its budgets of 1; its longest delay is 5,
+-- from release 0, where the figure is 8.
 pub quartet-not-reached :
     (d : Demands) (within : Within quartet d) (run : Run) (schedule : Schedule quartet d run)
-    → (worst quartet (response quartet) 2 (3 ∷ []) ≡ 8) × PathEnds d run 2 (3 ∷ []) 0 5 × ((k f : ℕ) → PathEnds d run 2 (3 ∷ []) k f → f ≤ k * 3 + 5)
-quartet-not-reached d within run schedule = (
-  quartet-chain .is-worst,
-  quartet-path within schedule 0,
-  λ k f path. omega (arith, path-unique d run 2 (3 ∷ []) k f (k / 2 * 6 + 5) path (quartet-path within schedule k), div-mul-le-self k 2),
-)
+    → ((t : ℕ) → run t ≡ fullBudget quartet t)
+    × PathEnds d run 2 (3 ∷ []) 0 5
+    × ((k f : ℕ) → PathEnds d run 2 (3 ∷ []) k f → f ≤ release quartet 2 k + 5)
+    × (worst quartet (response quartet) 2 (3 ∷ []) ≡ 8)
+quartet-not-reached d within run schedule =
+    (quartet-run within schedule, quartet-path within schedule 0, longest, quartet-chain .is-worst)
+  where
+    longest : (k f : ℕ) → PathEnds d run 2 (3 ∷ []) k f → f ≤ release quartet 2 k + 5
+    longest k f path = omega (arith, path-unique d run 2 (3 ∷ []) k f (k / 2 * 6 + 5) path (quartet-path within schedule k), div-mul-le-self k 2)

@@ -13,7 +13,8 @@ use Rattle.theory.specs.Ranges.{maximum, below-suc}
 use Rattle.theory.specs.Model.{period, budget, rank, Proper}
 use Rattle.theory.specs.Responses.{response, hyperperiod, jobs, taskResponse, Accepted}
 use Rattle.theory.specs.Hyperperiod.{released-jobs}
-use Rattle.theory.specs.ResponseLaws.{late-response, clearing, response-clearing}
+use Rattle.theory.specs.ResponseLaws.{late-response}
+use Rattle.theory.specs.Clearing.{clearing, response-clearing}
 use Rattle.theory.specs.Chain.{Chain, delay, worst, worstRelease, bound}
 use Rattle.theory.specs.ChainLaws.{delay-same, worst-same, worst-release-same, bound-same}
 

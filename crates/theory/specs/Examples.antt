@@ -12,7 +12,7 @@ use Rattle.theory.specs.Responses.{response, taskResponse, hyperperiod, 
 use Rattle.theory.specs.Idle.{idle-adds-up}
 use Rattle.theory.specs.Evaluation.{chain?, worst-clearing, worst-release-clearing, bound-clearing, decided, proper?, clears?, clears-accepted, Row, row?, cleared-row}
 use Rattle.theory.specs.Chain.{worst, worstRelease, bound}
-use Rattle.theory.specs.ResponseLaws.{clearing}
+use Rattle.theory.specs.Clearing.{clearing}
 
 -- A task (T, C, rank).
 abbrev pub task : ℕ → ℕ → ℕ → Task

@@ -1,5 +1,5 @@
 -- For every choice of demands there is exactly one schedule: `simulate` is one, and every other equals it.
-use mathlib.Core.Path.{_≡_, refl, sym, ap, ap₂, _∙_, subst}
+use mathlib.Core.Path.{_≡_, refl, sym, ap, ap₂, _∙_, subst, fun-ext}
 use mathlib.Core.List.{List}
 use mathlib.Core.Bool.{Bool, true, false, cond, false≢true}
 use Prim.Native.Nat.{ℕ, zero, suc, _+_, _≤_, _<_}
@@ -10,6 +10,8 @@ use lib.ListN.{length}
 use borrow.Author.Tests.{ltb-true, ltb-false, lt-ltb}
 use Rattle.theory.specs.declared.Task.{Task}
 use Rattle.theory.specs.Model.{rank, Proper, Demands, due, Slot, idle, busy, Run, runs, done, Pending, Schedule}
+use Rattle.theory.specs.Work.{due-demands}
+use Rattle.theory.specs.Responses.{full, fullBudget}
 use Rattle.theory.specs.Simulate.{outranking, greatest, choice, ticks, simulate}
 use Rattle.theory.specs.Ranges.{sum, below-suc}
 
@@ -63,6 +65,9 @@ module _ (ts : List Task) (d : Demands) where
     idle-empty = λ t j e l p. false≢true (sym (chosen t idle e j l) ∙ pending-ready t j p);
   }
 
+pub full-schedule : (ts : List Task) → Schedule ts (full ts) (fullBudget ts)
+full-schedule ts = simulate-schedule ts (full ts)
+
 -- Two runs that are schedules for the same demands agree in every tick, as ranks differ.
 module _ {ts : List Task} (good : Proper ts) {d : Demands} {run run′ : Run} (s : Schedule ts d run) (s′ : Schedule ts d run′) where
   slot-unique : (t : ℕ) → ((j : ℕ) → done run j t ≡ done run′ j t) → (x y : Slot) → run t ≡ x → run′ t ≡ y → x ≡ y
@@ -89,3 +94,15 @@ module _ {ts : List Task} (good : Proper ts) {d : Demands} {run run′ : Run} (s
 -- The schedule is unique: every run that is one is the simulated run.
 pub schedule-unique : {ts : List Task} → Proper ts → {d : Demands} {run : Run} → Schedule ts d run → (t : ℕ) → run t ≡ simulate ts d t
 schedule-unique {ts} good {d} s = run-unique good s (simulate-schedule ts d)
+
+-- Demands that agree on the tasks of the list have the same schedules.
+pub schedule-same : {ts : List Task} {d e : Demands} {run : Run} → ((i k : ℕ) → i < length ts → d i k ≡ e i k) → Schedule ts d run → Schedule ts e run
+schedule-same {ts} {d} {e} {run} same s = record {
+  runs-known = s .runs-known;
+  runs-pending = λ t i r. rw (due-same i t (s .runs-known t i r)) at (s .runs-pending t i r);
+  runs-greatest = λ t i j r l p. s .runs-greatest t i j r l (rw (due-same j t l) p);
+  idle-empty = λ t j r l p. s .idle-empty t j r l (rw (due-same j t l) p);
+}
+  where
+    due-same : (i t : ℕ) → i < length ts → due ts d i (suc t) ≡ due ts e i (suc t)
+    due-same i t l = due-demands ts d e i (suc t) (fun-ext (λ k. same i k l))

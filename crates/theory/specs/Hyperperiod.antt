@@ -2,13 +2,12 @@
 use mathlib.Core.Path.{_≡_, ap}
 use mathlib.Core.List.{List, [], _∷_}
 use Prim.Native.Nat.{ℕ, zero, suc, _*_, _/_, _<_, _∣_}
-use native.Mathlib.Nat.{dvd-trans, one-dvd, div-mul-cancel, mul-le-mul-right}
+use native.Mathlib.Nat.{dvd-trans, one-dvd, div-mul-cancel, mul-le-mul-right, lt-of-not-le, pos-of-ne-zero}
 use native.Mathlib.Omega.{arith}
-use native.Mathlib.Decide.{ℕ-discrete, decLt}
 use lib.ListN.{length}
 use Rattle.arith.specs.WholeLaws.{lcm-divides-left, lcm-divides-right, lcm-least, lcm-pos}
 use Rattle.theory.specs.declared.Task.{Task}
-use Rattle.theory.specs.Model.{period, Proper}
+use Rattle.theory.specs.Model.{period, release, Proper}
 use Rattle.theory.specs.Responses.{hyperperiod, jobs}
 
 pub hyperperiod-multiple : (ts : List Task) (i : ℕ) → i < length ts → period ts i ∣ hyperperiod ts
@@ -33,19 +32,11 @@ module _ {ts : List Task} (good : Proper ts) (i : ℕ) (known : i < length ts) w
   jobs-whole = div-mul-cancel (period ts i) (hyperperiod-multiple ts i known)
 
   pub jobs-positive : 0 < jobs ts i
-  jobs-positive = go (ℕ-discrete (jobs ts i) 0)
-    where
-      go : Dec (jobs ts i ≡ 0) → 0 < jobs ts i
-      go (yes e) = absurd (omega (arith, jobs-whole, ap (λ x. x * period ts i) e, hyperperiod-positive ts (good .period-positive)))
-      go (no e) = omega arith
+  jobs-positive = pos-of-ne-zero (λ e. omega (arith, jobs-whole, ap (λ x. x * period ts i) e, hyperperiod-positive ts (good .period-positive)))
 
   -- Job k is released before H exactly when it is one of the first H/T.
-  pub jobs-released : (k : ℕ) → k < jobs ts i → k * period ts i < hyperperiod ts
+  pub jobs-released : (k : ℕ) → k < jobs ts i → release ts i k < hyperperiod ts
   jobs-released k l = omega (arith, jobs-whole, mul-le-mul-right {m = suc k} {n = jobs ts i} (period ts i) l, good .period-positive i known)
 
-  pub released-jobs : (k : ℕ) → k * period ts i < hyperperiod ts → k < jobs ts i
-  released-jobs k l = go (decLt k (jobs ts i))
-    where
-      go : Dec (k < jobs ts i) → k < jobs ts i
-      go (yes q) = q
-      go (no q) = absurd (omega (arith, jobs-whole, mul-le-mul-right {m = jobs ts i} {n = k} (period ts i) (omega arith)))
+  pub released-jobs : (k : ℕ) → release ts i k < hyperperiod ts → k < jobs ts i
+  released-jobs k l = lt-of-not-le (λ h. omega (arith, jobs-whole, mul-le-mul-right {m = jobs ts i} {n = k} (period ts i) h))

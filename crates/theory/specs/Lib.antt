@@ -8,6 +8,7 @@ pub mod Backlog
 pub mod Finish
 pub mod Existence
 pub mod ResponseLaws
+pub mod Clearing
 pub mod Hyperperiod
 pub mod Repetition
 pub mod Idle

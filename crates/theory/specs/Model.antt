@@ -2,7 +2,7 @@
 use mathlib.Core.Path.{_≡_}
 use mathlib.Core.List.{List}
 use mathlib.Core.Bool.{cond}
-use Prim.Native.Nat.{ℕ, suc, _/_, _%_, _≤_, _<_}
+use Prim.Native.Nat.{ℕ, suc, _*_, _/_, _%_, _≤_, _<_}
 use lib.Dec.{eqb}
 use lib.ListN.{length, getD}
 use Rattle.theory.specs.declared.Task.{Task}
@@ -21,6 +21,10 @@ budget ts i = (getD ts i none) .budget
 
 abbrev pub rank : List Task → ℕ → ℕ
 rank ts i = (getD ts i none) .rank
+
+-- "Job k of a task is released at k·T, k = 0, 1, 2 and so on."
+abbrev pub release : List Task → ℕ → ℕ → ℕ
+release ts i k = k * period ts i
 
 -- Periods and budgets are at least 1, and "ranks on a sheet differ".
 pub record Proper (ts : List Task) : Type 0 where
@@ -41,7 +45,7 @@ pub record Within (ts : List Task) (d : Demands) : Type 0 where
 unfoldable pub need : Demands → ℕ → ℕ → ℕ
 need d i k = sum k (d i)
 
--- "Job k of a task is released at k·T": the work of task i that is released at tick t.
+-- The work of task i that is released at tick t: the demand of job t / T, if t is a multiple of T.
 unfoldable pub released : List Task → Demands → ℕ → ℕ → ℕ
 released ts d i t = cond (eqb (t % period ts i) 0) (d i (t / period ts i)) 0
 

@@ -1,17 +1,20 @@
--- Quartet, whose chain falls in rank: its budgets are all 1, so it has one schedule, in which each path ends 5 ticks into a period of 6.
-use mathlib.Core.Path.{_≡_, refl, sym, ap, _∙_, subst}
+-- Quartet, whose chain falls in rank: its budgets are all 1, so it has one schedule, and each path ends 5 ticks into a hyperperiod of 6.
+use mathlib.Core.Path.{_≡_, sym, ap, _∙_, subst}
 use mathlib.Core.List.{[], _∷_}
-use Prim.Native.Nat.{ℕ, zero, suc, _+_, _*_, _/_, _%_, _<_}
-use native.Mathlib.Nat.{le-antisymm, div-add-mod', mod-lt, mod-one}
+use mathlib.Core.Bool.{decide}
+use Prim.Native.Nat.{ℕ, suc, _+_, _*_, _/_, _%_, _<_}
+use native.Mathlib.Nat.{div-add-mod', mod-lt, mod-one}
 use native.Mathlib.Omega.{arith}
 use native.Mathlib.Decide.{ℕ-discrete}
-use Rattle.theory.specs.Model.{period, budget, Demands, Within, busy, Run, Schedule, Starts, Finishes}
-use Rattle.theory.specs.Responses.{full, response, hyperperiod}
+use Rattle.theory.specs.Ranges.{sum-eq}
+use Rattle.theory.specs.Model.{release, budget, Demands, Within, need, busy, Run, Schedule, Starts, Finishes}
+use Rattle.theory.specs.Responses.{full, fullBudget, response, hyperperiod}
 use Rattle.theory.specs.Work.{done-busy, need-step}
-use Rattle.theory.specs.Backlog.{backlog, backlog-mono}
-use Rattle.theory.specs.Finish.{FirstZero, first-zero-finish, start-unique}
-use Rattle.theory.specs.ResponseLaws.{response-first-zero}
-use Rattle.theory.specs.Repetition.{never-late, response-jobs, response-period}
+use Rattle.theory.specs.Finish.{start-unique}
+use Rattle.theory.specs.Existence.{schedule-unique, schedule-same}
+use Rattle.theory.specs.ResponseLaws.{response-finishes}
+use Rattle.theory.specs.Repetition.{never-late, response-jobs}
+use Rattle.theory.specs.Evaluation.{decided, all?}
 use Rattle.theory.specs.Examples.{quartet, quartet-accepted, quartet-rows}
 use Rattle.theory.specs.Chain.{HandOver, PathEnds}
 
@@ -34,49 +37,48 @@ response-three : (k : ℕ) → response quartet 3 k ≡ 5
 unfolding hyperperiod
 response-three k = response-jobs quartet-accepted 3 (omega arith) k ∙ ap (response quartet 3) (mod-one k) ∙ quartet-rows .3 .each 0 (omega arith)
 
+budget-one : (i : ℕ) → i < 4 → budget quartet i ≡ 1
+unfolding decide all? ℕ-discrete
+budget-one = decided (all? 4 (λ i. budget quartet i ≡ 1) (λ i. ℕ-discrete (budget quartet i) 1)) tt
+
 module _ {d : Demands} {run : Run} (w : Within quartet d) (s : Schedule quartet d run) where
-  budget-one : (i k : ℕ) → i < 4 → budget quartet i ≡ 1
-  budget-one zero k l = refl
-  budget-one (suc zero) k l = refl
-  budget-one (suc (suc zero)) k l = refl
-  budget-one (suc (suc (suc zero))) k l = refl
-  budget-one (suc (suc (suc (suc i)))) k l = absurd (omega arith)
+  -- Every demand is 1, the budget, so the run is the full-budget schedule.
+  demand-full : (i k : ℕ) → i < 4 → d i k ≡ full quartet i k
+  demand-full i k l = omega (arith, w .least-one i k l, w .most-budget i k l, budget-one i l)
 
-  -- Every demand is 1, the budget.
-  demand-one : (i k : ℕ) → i < 4 → d i k ≡ 1
-  demand-one i k l = omega (arith, w .least-one i k l, w .most-budget i k l, budget-one i k l)
+  full-run : Schedule quartet (full quartet) run
+  full-run = schedule-same demand-full s
 
-  -- So backlogs, and with them finishes, are those of full budgets.
-  backlog-full : (i t : ℕ) → backlog quartet d i t ≡ backlog quartet (full quartet) i t
-  backlog-full i t = le-antisymm (backlog-mono quartet d (full quartet) (λ j k l. w .most-budget j k l) i t)
-      (backlog-mono quartet (full quartet) d (λ j k l. omega (arith, demand-one j k l, budget-one j k l)) i t)
+  pub quartet-run : (t : ℕ) → run t ≡ fullBudget quartet t
+  quartet-run = schedule-unique (quartet-accepted .proper) full-run
 
-  finishes : (i k : ℕ) → i < 4 → Finishes d run i k (k * period quartet i + response quartet i k)
-  finishes i k l = first-zero-finish (quartet-accepted .proper) s i k l _ (w .least-one i k l) (omega (arith, response-period quartet-accepted i l k))
-      (record { after = x .after; is-zero = backlog-full i _ ∙ x .is-zero; first = λ z m e. x .first z m (sym (backlog-full i z) ∙ e) })
+  finishes : (i k : ℕ) → i < 4 → Finishes d run i k (release quartet i k + response quartet i k)
+  unfolding need
+  finishes i k l = record { last = x .last; is-next = x .is-next; runs-last = x .runs-last; done-by = x .done-by ∙ sum-eq (suc k) _ _ (λ j m. sym (demand-full i j l)) }
     where
-      x : FirstZero (backlog quartet (full quartet) i) (k * period quartet i) (k * period quartet i + response quartet i k)
-      x = response-first-zero (quartet-accepted .proper) i k l (never-late quartet-accepted i l k)
+      x : Finishes (full quartet) run i k (release quartet i k + response quartet i k)
+      x = response-finishes (quartet-accepted .proper) i k l (never-late quartet-accepted i l k) full-run
 
-  -- Task 3 starts its job m at 6m + 4.
-  starts : (m : ℕ) → Starts d run 3 m (m * 6 + 4)
-  starts m = record { runs-first = last; done-before = omega (arith, done-busy run 3 (m * 6 + 4) last, fin .done-by, need-step d 3 m, demand-one 3 m (omega arith)) }
+  -- Task 3 finishes its job m at 6m + 5, and starts it a tick before.
+  finishes-three : (m : ℕ) → Finishes d run 3 m (suc (m * 6 + 4))
+  finishes-three m = subst (Finishes d run 3 m) (omega (arith, response-three m)) (finishes 3 m (omega arith))
+
+  starts-three : (m : ℕ) → Starts d run 3 m (m * 6 + 4)
+  starts-three m = record { runs-first = last; done-before = omega (arith, done-busy run 3 (m * 6 + 4) last, finishes-three m .done-by, need-step d 3 m, demand-full 3 m (omega arith)) }
     where
-      fin : Finishes d run 3 m (suc (m * 6 + 4))
-      fin = subst (Finishes d run 3 m) (omega (arith, response-three m)) (finishes 3 m (omega arith))
-
       last : run (m * 6 + 4) ≡ busy 3
-      last = ap run (omega (arith, fin .is-next)) ∙ fin .runs-last
+      last = ap run (omega (arith, finishes-three m .is-next)) ∙ finishes-three m .runs-last
 
+  -- So job k of task 2 hands over to job k / 2 of task 3.
   hand-over : (k : ℕ) → HandOver d run 2 3 k (k / 2)
   hand-over k = record {
     write = k * 3 + response quartet 2 k;
     finishes = finishes 2 k (omega arith);
     read = k / 2 * 6 + 4;
-    starts = starts (k / 2);
+    starts = starts-three (k / 2);
     in-time = omega (arith, response-two k, div-add-mod' k 2, mod-lt k {m = 2} (omega arith));
-    first = λ x t y h. omega (arith, start-unique y (starts x), response-two k, div-add-mod' k 2, mod-lt k {m = 2} (omega arith));
+    first = λ x t y h. omega (arith, start-unique y (starts-three x), response-two k, div-add-mod' k 2, mod-lt k {m = 2} (omega arith));
   }
 
   pub quartet-path : (k : ℕ) → PathEnds d run 2 (3 ∷ []) k (k / 2 * 6 + 5)
-  quartet-path k = (k / 2, hand-over k, subst (Finishes d run 3 (k / 2)) (omega (arith, response-three (k / 2))) (finishes 3 (k / 2) (omega arith)))
+  quartet-path k = (k / 2, hand-over k, subst (Finishes d run 3 (k / 2)) (omega arith) (finishes-three (k / 2)))

@@ -10,7 +10,7 @@ use native.Mathlib.Decide.{ℕ-discrete}
 use lib.Dec.{eqb}
 use borrow.Author.Tests.{eqb-true, eq-eqb, ne-eqb}
 use Rattle.theory.specs.declared.Task.{Task}
-use Rattle.theory.specs.Model.{period, Demands, need, released, due, Slot, idle, busy, Run, runs, done}
+use Rattle.theory.specs.Model.{period, release, Demands, need, released, due, Slot, idle, busy, Run, runs, done}
 use Rattle.theory.specs.Ranges.{sum, sum-grows}
 
 -- One tick's share
@@ -76,6 +76,10 @@ pub due-step : (ts : List Task) (d : Demands) (i t : ℕ) → due ts d i (suc t)
 unfolding due sum
 due-step ts d i t = refl
 
+pub due-demands : (ts : List Task) (d e : Demands) (i t : ℕ) → d i ≡ e i → due ts d i t ≡ due ts e i t
+unfolding due released
+due-demands ts d e i t same = ap (λ demand. sum t (λ x. cond (eqb (x % period ts i) 0) (demand (x / period ts i)) 0)) same
+
 module _ (ts : List Task) (d : Demands) (i : ℕ) (positive : 0 < period ts i) where
   abbrev T : ℕ
   T = period ts i
@@ -103,7 +107,7 @@ module _ (ts : List Task) (d : Demands) (i : ℕ) (positive : 0 < period ts i) w
           same = div-eq-of-lt-le T (omega (arith, div-add-mod' t T)) (omega (arith, div-add-mod' t T, mod-lt t positive))
 
   -- A job that is released before t is due by t.
-  pub due-covers : (k t : ℕ) → k * period ts i < t → need d i (suc k) ≤ due ts d i t
+  pub due-covers : (k t : ℕ) → release ts i k < t → need d i (suc k) ≤ due ts d i t
   due-covers k zero l = omega arith
   due-covers k (suc t) l = rw (due-jobs t) (need-grows d i (suc k) (suc (t / T)) (omega (arith, le-div-iff-mul-le positive .1 upto)))
     where
@@ -111,7 +115,7 @@ module _ (ts : List Task) (d : Demands) (i : ℕ) (positive : 0 < period ts i) w
       upto = omega arith
 
   -- Up to the release of job k no more is due than the jobs before it need.
-  pub due-most : (k t : ℕ) → t ≤ k * period ts i → due ts d i t ≤ need d i k
+  pub due-most : (k t : ℕ) → t ≤ release ts i k → due ts d i t ≤ need d i k
   unfolding due sum
   due-most k zero l = omega arith
   due-most k (suc t) l = rw (due-jobs t) (need-grows d i (suc (t / T)) k (div-lt-iff-lt-mul positive .1 l))

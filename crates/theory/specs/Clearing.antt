@@ -36,7 +36,8 @@ module _ (a : ℕ → ℕ) where
   unfolding until
   until-zero zero b t e l = absurd (omega arith)
   until-zero (suc n) zero t e l = ap (drain a) (omega arith) ∙ e
-  until-zero (suc n) (suc b) t e l = ap (drain a) (omega arith) ∙ until-zero n (b + a t) (suc t) (omega (arith, drain-step a t)) (omega arith)
+  until-zero (suc n) (suc b) t e l =
+      ap (drain a) (omega arith) ∙ until-zero n (b + a t) (suc t) (omega (arith, drain-step a t)) (omega arith)
 
   until-first : (n b t m : ℕ) → drain a t ≡ b → drain a (t + m) ≡ 0 → until a n b t ≤ m
   unfolding until
@@ -46,7 +47,8 @@ module _ (a : ℕ → ℕ) where
     where
       here : t + 0 ≡ t
       here = omega arith
-  until-first (suc n) (suc b) t (suc m) e z = omega (arith, until-first n (b + a t) (suc t) m (omega (arith, drain-step a t)) (ap (drain a) next ∙ z))
+  until-first (suc n) (suc b) t (suc m) e z =
+      omega (arith, until-first n (b + a t) (suc t) m (omega (arith, drain-step a t)) (ap (drain a) next ∙ z))
     where
       next : suc t + m ≡ t + suc m
       next = omega arith
@@ -72,7 +74,8 @@ response-clearing {ts} good i k known = go (decLt (done (fullBudget ts) i (relea
     go (yes late) =
         let no : ¬ (w < period ts i) = λ l. zero-on-time good i k known (suc r + w) (omega arith) (omega arith) (zero-there l) late in
         omega (arith, late-response ts i k late, until-within a (period ts i) (drain a (suc r)) (suc r))
-    go (no on-time) = omega (arith, early, x .first (suc r + w) (omega arith) (zero-there (omega (arith, early, response-most good i k known on-time))))
+    go (no on-time) =
+        omega (arith, early, x .first (suc r + w) (omega arith) (zero-there (omega (arith, early, response-most good i k known on-time))))
       where
         x : FirstZero (drain a) r (r + response ts i k)
         x = response-first-zero good i k known on-time
@@ -81,4 +84,5 @@ response-clearing {ts} good i k known = go (decLt (done (fullBudget ts) i (relea
         same = omega (arith, x .after)
 
         early : suc w ≤ response ts i k
-        early = omega (arith, until-first a (period ts i) (drain a (suc r)) (suc r) (response ts i k - 1) refl (ap (drain a) same ∙ x .is-zero), x .after)
+        early =
+            omega (arith, until-first a (period ts i) (drain a (suc r)) (suc r) (response ts i k - 1) refl (ap (drain a) same ∙ x .is-zero), x .after)

@@ -23,7 +23,8 @@ pub record GreatestDelay (ts : List Task) (p : ℕ) (rest : List ℕ) (figure at
   pub before : at < hyperperiod ts
   pub smallest : (k : ℕ) → delay ts (response ts) p rest (release ts p k) ≡ figure → at ≤ release ts p k
 
-repeating : {ts : List Task} → Accepted ts → (p : ℕ) (rest : List ℕ) (k : ℕ) → Chain ts p rest → delay ts (response ts) p rest (release ts p k) ≤ worst ts (response ts) p rest
+repeating : {ts : List Task} → Accepted ts → (p : ℕ) (rest : List ℕ) (k : ℕ) → Chain ts p rest
+    → delay ts (response ts) p rest (release ts p k) ≤ worst ts (response ts) p rest
 repeating {ts} accepted = delay-worst (accepted .proper) (response ts) (λ i m l. response-again accepted i l m)
 
 -- 1. No schedule exceeds the figure. For every accepted sheet, all demands of 1 to C, every run that is a schedule for them and every job
@@ -49,9 +50,11 @@ worst-within-bound ts accepted p rest chain =
 pub worst-reached :
     (ts : List Task) (accepted : Accepted ts) (p : ℕ) (rest : List ℕ) (chain : Chain ts p rest) (rising : Rising ts p rest)
     (run : Run) (schedule : Schedule ts (full ts) run)
-    → PathEnds (full ts) run p rest (worstRelease ts (response ts) p rest / period ts p) (worstRelease ts (response ts) p rest + worst ts (response ts) p rest)
+    → PathEnds (full ts) run p rest (worstRelease ts (response ts) p rest / period ts p)
+    (worstRelease ts (response ts) p rest + worst ts (response ts) p rest)
 worst-reached ts accepted p rest chain rising run schedule =
-    subst (PathEnds (full ts) run p rest k) (omega (arith, job, ap (delay ts (response ts) p rest) job, gives)) (path-exact accepted schedule p rest chain rising k)
+    subst (PathEnds (full ts) run p rest k) (omega (arith, job, ap (delay ts (response ts) p rest) job, gives))
+    (path-exact accepted schedule p rest chain rising k)
   where
     k : ℕ
     k = worstRelease ts (response ts) p rest / period ts p
@@ -89,4 +92,5 @@ quartet-not-reached d within run schedule =
     (quartet-run within schedule, quartet-path within schedule 0, longest, quartet-chain .is-worst)
   where
     longest : (k f : ℕ) → PathEnds d run 2 (3 ∷ []) k f → f ≤ release quartet 2 k + 5
-    longest k f path = omega (arith, path-unique d run 2 (3 ∷ []) k f (k / 2 * 6 + 5) path (quartet-path within schedule k), div-mul-le-self k 2)
+    longest k f path =
+        omega (arith, path-unique d run 2 (3 ∷ []) k f (k / 2 * 6 + 5) path (quartet-path within schedule k), div-mul-le-self k 2)

@@ -57,7 +57,8 @@ unfoldable pub clears? : (ts : List Task) → Dec ((i : ℕ) → i < length ts �
 unfolding all? decLe clearing hyperperiod
 clears? ts = all? (length ts) _ (λ i. all? (jobs ts i) _ (λ k. decLe (clearing ts i k) (period ts i)))
 
-pub clears-accepted : {ts : List Task} → Proper ts → ((i : ℕ) → i < length ts → (k : ℕ) → k < jobs ts i → clearing ts i k ≤ period ts i) → Accepted ts
+pub clears-accepted : {ts : List Task} → Proper ts
+    → ((i : ℕ) → i < length ts → (k : ℕ) → k < jobs ts i → clearing ts i k ≤ period ts i) → Accepted ts
 clears-accepted {ts} good clears = record {
   proper = good;
   none-late = λ i l x.
@@ -73,7 +74,8 @@ unfoldable pub row? : (ts : List Task) (i : ℕ) (row : List ℕ) → Dec ((k : 
 unfolding all? ℕ-discrete clearing hyperperiod
 row? ts i row = all? (jobs ts i) _ (λ k. ℕ-discrete (clearing ts i k) (getD row k 0))
 
-pub cleared-row : {ts : List Task} → Proper ts → (i : ℕ) (row : List ℕ) → i < length ts → length row ≡ jobs ts i → ((k : ℕ) → k < jobs ts i → clearing ts i k ≡ getD row k 0) → Row ts i row
+pub cleared-row : {ts : List Task} → Proper ts → (i : ℕ) (row : List ℕ) → i < length ts → length row ≡ jobs ts i
+    → ((k : ℕ) → k < jobs ts i → clearing ts i k ≡ getD row k 0) → Row ts i row
 cleared-row good i row l whole each = record { whole = whole; each = λ k m. response-clearing good i k l ∙ each k m }
 
 -- The chain is one of the list.
@@ -104,4 +106,6 @@ module _ {ts : List Task} (good : Proper ts) (p : ℕ) (rest : List ℕ) (chain 
 
   pub bound-clearing : bound ts (taskResponse ts) p rest ≡ bound ts (λ i. maximum (jobs ts i) (clearing ts i)) p rest
   unfolding taskResponse
-  bound-clearing = bound-same ts (taskResponse ts) (λ i. maximum (jobs ts i) (clearing ts i)) (λ i l. ap (maximum (jobs ts i)) (fun-ext (λ k. cleared i k l))) p rest chain
+  bound-clearing =
+      bound-same ts (taskResponse ts) (λ i. maximum (jobs ts i) (clearing ts i))
+      (λ i l. ap (maximum (jobs ts i)) (fun-ext (λ k. cleared i k l))) p rest chain

@@ -60,7 +60,8 @@ quartet-figures = (refl, refl, omega (arith, idle-adds-up quartet-accepted))
 
 -- Rows
 
-row : {ts : List Task} → Accepted ts → (i : ℕ) (xs : List ℕ) → T (ltb i (length ts)) → T (eqb (length xs) (jobs ts i)) → T (decide (row? ts i xs)) → Row ts i xs
+row : {ts : List Task} → Accepted ts → (i : ℕ) (xs : List ℕ) → T (ltb i (length ts)) → T (eqb (length xs) (jobs ts i))
+    → T (decide (row? ts i xs)) → Row ts i xs
 row {ts} ok i xs known whole each =
     cleared-row (ok .proper) i xs (ltb→lt i (length ts) known) (eqb→eq (length xs) (jobs ts i) whole) (decided (row? ts i xs) each)
 
@@ -74,7 +75,8 @@ radio-rows = (row radio-accepted 0 _ tt tt tt, row radio-accepted 1 _ tt tt tt, 
 
 pub quartet-rows : Row quartet 0 (1 ∷ []) × Row quartet 1 (2 ∷ []) × Row quartet 2 (3 ∷ 1 ∷ []) × Row quartet 3 (5 ∷ [])
 unfolding decide row? hyperperiod
-quartet-rows = (row quartet-accepted 0 _ tt tt tt, row quartet-accepted 1 _ tt tt tt, row quartet-accepted 2 _ tt tt tt, row quartet-accepted 3 _ tt tt tt)
+quartet-rows =
+    (row quartet-accepted 0 _ tt tt tt, row quartet-accepted 1 _ tt tt tt, row quartet-accepted 2 _ tt tt tt, row quartet-accepted 3 _ tt tt tt)
 
 -- The worst figure, its release and the quick bound of a chain
 
@@ -84,7 +86,8 @@ pub record Figures (ts : List Task) (p : ℕ) (rest : List ℕ) (figure release 
   pub is-bound : bound ts (taskResponse ts) p rest ≡ quick
 
 figures : {ts : List Task} → Accepted ts → (p : ℕ) (rest : List ℕ) → T (decide (chain? ts p rest)) → {figure release quick : ℕ}
-    → worst ts (clearing ts) p rest ≡ figure → worstRelease ts (clearing ts) p rest ≡ release → bound ts (λ i. maximum (jobs ts i) (clearing ts i)) p rest ≡ quick
+    → worst ts (clearing ts) p rest ≡ figure → worstRelease ts (clearing ts) p rest ≡ release
+    → bound ts (λ i. maximum (jobs ts i) (clearing ts i)) p rest ≡ quick
     → Figures ts p rest figure release quick
 figures {ts} ok p rest chain w r b = record {
   is-worst = worst-clearing (ok .proper) p rest (decided (chain? ts p rest) chain) ∙ w;

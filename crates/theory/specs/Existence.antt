@@ -35,7 +35,8 @@ greatest-is rank test (suc n) = go (test n) refl (greatest rank test n) (greates
     go true e (busy i) h = pick (ltb (rank i) (rank n)) refl
       where
         pick : (b : Bool) → ltb (rank i) (rank n) ≡ b → IsGreatest rank test (suc n) (cond b (busy n) (busy i))
-        pick true q = (omega arith, e, below-suc (lower n) (λ j l z. omega (arith, h .2 j l z, ltb-true (rank i) (rank n) q)) (λ z. le-refl _))
+        pick true q =
+            (omega arith, e, below-suc (lower n) (λ j l z. omega (arith, h .2 j l z, ltb-true (rank i) (rank n) q)) (λ z. le-refl _))
         pick false q = (omega (arith, h .0), h .1, below-suc (lower i) (h .2) (λ z. ltb-false (rank i) (rank n) q))
 
 module _ (ts : List Task) (d : Demands) where
@@ -75,7 +76,11 @@ module _ {ts : List Task} (good : Proper ts) {d : Demands} {run run′ : Run} (s
   slot-unique t h idle (busy j) p q = absurd (s .idle-empty t j p (s′ .runs-known t j q) (rw (h j) (s′ .runs-pending t j q)))
   slot-unique t h (busy i) idle p q = absurd (s′ .idle-empty t i q (s .runs-known t i p) (rw (h i) at (s .runs-pending t i p)))
   slot-unique t h (busy i) (busy j) p q =
-      ap busy (good .ranks-differ i j li lj (omega (arith, s .runs-greatest t i j p lj (rw (h j) (s′ .runs-pending t j q)), s′ .runs-greatest t j i q li (rw (h i) at (s .runs-pending t i p)))))
+      ap busy (good .ranks-differ i j li lj (omega (
+        arith,
+        s .runs-greatest t i j p lj (rw (h j) (s′ .runs-pending t j q)),
+        s′ .runs-greatest t j i q li (rw (h i) at (s .runs-pending t i p)),
+      )))
     where
       li : i < length ts
       li = s .runs-known t i p
@@ -96,7 +101,8 @@ pub schedule-unique : {ts : List Task} → Proper ts → {d : Demands} {run : Ru
 schedule-unique {ts} good {d} s = run-unique good s (simulate-schedule ts d)
 
 -- Demands that agree on the tasks of the list have the same schedules.
-pub schedule-same : {ts : List Task} {d e : Demands} {run : Run} → ((i k : ℕ) → i < length ts → d i k ≡ e i k) → Schedule ts d run → Schedule ts e run
+pub schedule-same : {ts : List Task} {d e : Demands} {run : Run} → ((i k : ℕ) → i < length ts → d i k ≡ e i k)
+    → Schedule ts d run → Schedule ts e run
 schedule-same {ts} {d} {e} {run} same s = record {
   runs-known = s .runs-known;
   runs-pending = λ t i r. rw (due-same i t (s .runs-known t i r)) at (s .runs-pending t i r);

@@ -24,13 +24,15 @@ first-zero-unique {y = y} {z = z} p q = le-antisymm (p .first z (q .after) (q .i
 
 module _ (d : Demands) (run : Run) (i k f : ℕ) (some : 1 ≤ d i k) (worked : need d i (suc k) ≤ done run i f) where
   pub done-starts : (t : ℕ) × Starts d run i k t
-  done-starts = let x = done-passes run i (need d i k) f (omega (arith, need-step d i k)) in (x .0, record { runs-first = x .2; done-before = x .3 })
+  done-starts =
+      let x = done-passes run i (need d i k) f (omega (arith, need-step d i k)) in
+      (x .at, record { runs-first = x .runs-then; done-before = x .counts })
 
   pub done-finishes : (g : ℕ) × (g ≤ f) × Finishes d run i k g
   done-finishes =
       let x = done-passes run i (need d i (suc k) - 1) f (omega (arith, need-step d i k)) in
-      let upto : done run i (suc (x .0)) ≡ need d i (suc k) = omega (arith, done-busy run i (x .0) (x .2), x .3, need-step d i k) in
-      (suc (x .0), omega (arith, x .1), record { last = x .0; is-next = refl; runs-last = x .2; done-by = upto })
+      let upto : done run i (suc (x .at)) ≡ need d i (suc k) = omega (arith, done-busy run i (x .at) (x .runs-then), x .counts, need-step d i k) in
+      (suc (x .at), x .before, record { last = x .at; is-next = refl; runs-last = x .runs-then; done-by = upto })
 
 -- It starts once, and finishes once
 
@@ -57,8 +59,11 @@ module _ {d : Demands} {run : Run} {i k : ℕ} where
 module _ {ts : List Task} (good : Proper ts) {d : Demands} {run : Run} (s : Schedule ts d run) (i k : ℕ) (known : i < length ts) where
   -- A job starts at or after its release, and finishes after it.
   pub start-released : (t : ℕ) → Starts d run i k t → release ts i k ≤ t
-  start-released t x =
-      let no : ¬ (t < release ts i k) = λ l. omega (arith, x .done-before, s .runs-pending t i (x .runs-first), due-most ts d i (good .period-positive i known) k (suc t) l) in omega arith
+  start-released t x = let no : ¬ (t < release ts i k) = early in omega arith
+    where
+      early : ¬ (t < release ts i k)
+      early l =
+          omega (arith, x .done-before, s .runs-pending t i (x .runs-first), due-most ts d i (good .period-positive i known) k (suc t) l)
 
   pub finish-released : (f : ℕ) → 1 ≤ d i k → Finishes d run i k f → release ts i k < f
   finish-released f some x = let no : ¬ (f ≤ release ts i k) = early in omega arith
@@ -84,22 +89,28 @@ module _ {ts : List Task} (good : Proper ts) {d : Demands} {run : Run} (s : Sche
       t = x .last
 
       go : (j : ℕ) → j < length ts → rank ts i ≤ rank ts j → Dec (i ≡ j) → due ts d j f ≤ done run j f
-      go j m r (yes e) = subst (λ y. due ts d y f ≤ done run y f) e (omega (arith, x .done-by, due-most ts d i (good .period-positive i known) (suc k) f l))
+      go j m r (yes e) =
+          subst (λ y. due ts d y f ≤ done run y f) e (omega (arith, x .done-by, due-most ts d i (good .period-positive i known) (suc k) f l))
       go j m r (no e) = rw (x .is-next) (omega (arith, over, done-grows run j t (suc t) (omega arith)))
         where
           over : ¬ (Pending ts d run j t)
           over p = e (good .ranks-differ i j known m (omega (arith, s .runs-greatest t i j (x .runs-last) m p)))
 
   -- A job that finishes by its task's next release finishes at the first zero of the backlog after its release.
-  pub finish-first-zero : (f : ℕ) → 1 ≤ d i k → f ≤ release ts i (suc k) → Finishes d run i k f → FirstZero (backlog ts d i) (release ts i k) f
-  finish-first-zero f some l x = record { after = finish-released f some x; is-zero = finish-zero f l x; first = λ z m e. finish-least x z (zero-done z m e) }
+  pub finish-first-zero : (f : ℕ) → 1 ≤ d i k → f ≤ release ts i (suc k) → Finishes d run i k f
+      → FirstZero (backlog ts d i) (release ts i k) f
+  finish-first-zero f some l x =
+      record { after = finish-released f some x; is-zero = finish-zero f l x; first = λ z m e. finish-least x z (zero-done z m e) }
 
   -- There is such a zero where its work is done by the next release,
-  pub on-time-zero : 1 ≤ d i k → need d i (suc k) ≤ done run i (release ts i (suc k)) → (z : ℕ) × (z ≤ release ts i (suc k)) × FirstZero (backlog ts d i) (release ts i k) z
-  on-time-zero some h = let g = done-finishes d run i k (release ts i (suc k)) some h in (g .0, g .1, finish-first-zero (g .0) some (g .1) (g .2))
+  pub on-time-zero : 1 ≤ d i k → need d i (suc k) ≤ done run i (release ts i (suc k))
+      → (z : ℕ) × (z ≤ release ts i (suc k)) × FirstZero (backlog ts d i) (release ts i k) z
+  on-time-zero some h =
+      let g = done-finishes d run i k (release ts i (suc k)) some h in (g .0, g .1, finish-first-zero (g .0) some (g .1) (g .2))
 
   -- and it finishes there.
-  pub first-zero-finish : (z : ℕ) → 1 ≤ d i k → z ≤ release ts i (suc k) → FirstZero (backlog ts d i) (release ts i k) z → Finishes d run i k z
+  pub first-zero-finish : (z : ℕ) → 1 ≤ d i k → z ≤ release ts i (suc k) → FirstZero (backlog ts d i) (release ts i k) z
+      → Finishes d run i k z
   first-zero-finish z some l x =
       let g = done-finishes d run i k z some (zero-done z (x .after) (x .is-zero)) in
       subst (Finishes d run i k) (first-zero-unique (finish-first-zero (g .0) some (omega (arith, g .1)) (g .2)) x) (g .2)

@@ -14,17 +14,20 @@ pub hyperperiod-multiple : (ts : List Task) (i : ℕ) → i < length ts → peri
 unfolding hyperperiod
 hyperperiod-multiple [] i l = absurd (omega arith)
 hyperperiod-multiple (x ∷ ts) zero l = lcm-divides-left (x .period) (hyperperiod ts)
-hyperperiod-multiple (x ∷ ts) (suc i) l = dvd-trans (period ts i) (hyperperiod-multiple ts i (omega arith)) (lcm-divides-right (x .period) (hyperperiod ts))
+hyperperiod-multiple (x ∷ ts) (suc i) l =
+    dvd-trans (period ts i) (hyperperiod-multiple ts i (omega arith)) (lcm-divides-right (x .period) (hyperperiod ts))
 
 pub hyperperiod-least : (ts : List Task) (m : ℕ) → ((i : ℕ) → i < length ts → period ts i ∣ m) → hyperperiod ts ∣ m
 unfolding hyperperiod
 hyperperiod-least [] m h = one-dvd m
-hyperperiod-least (x ∷ ts) m h = lcm-least (x .period) (hyperperiod ts) (h 0 (omega arith)) (hyperperiod-least ts m (λ i l. h (suc i) (omega arith)))
+hyperperiod-least (x ∷ ts) m h =
+    lcm-least (x .period) (hyperperiod ts) (h 0 (omega arith)) (hyperperiod-least ts m (λ i l. h (suc i) (omega arith)))
 
 pub hyperperiod-positive : (ts : List Task) → ((i : ℕ) → i < length ts → 0 < period ts i) → 0 < hyperperiod ts
 unfolding hyperperiod
 hyperperiod-positive [] h = omega arith
-hyperperiod-positive (x ∷ ts) h = lcm-pos (x .period) (hyperperiod ts) (h 0 (omega arith)) (hyperperiod-positive ts (λ i l. h (suc i) (omega arith)))
+hyperperiod-positive (x ∷ ts) h =
+    lcm-pos (x .period) (hyperperiod ts) (h 0 (omega arith)) (hyperperiod-positive ts (λ i l. h (suc i) (omega arith)))
 
 module _ {ts : List Task} (good : Proper ts) (i : ℕ) (known : i < length ts) where
   -- H is a whole number of periods of each task.
@@ -32,7 +35,8 @@ module _ {ts : List Task} (good : Proper ts) (i : ℕ) (known : i < length ts) w
   jobs-whole = div-mul-cancel (period ts i) (hyperperiod-multiple ts i known)
 
   pub jobs-positive : 0 < jobs ts i
-  jobs-positive = pos-of-ne-zero (λ e. omega (arith, jobs-whole, ap (λ x. x * period ts i) e, hyperperiod-positive ts (good .period-positive)))
+  jobs-positive =
+      pos-of-ne-zero (λ e. omega (arith, jobs-whole, ap (λ x. x * period ts i) e, hyperperiod-positive ts (good .period-positive)))
 
   -- Job k is released before H exactly when it is one of the first H/T.
   pub jobs-released : (k : ℕ) → k < jobs ts i → release ts i k < hyperperiod ts

@@ -9,8 +9,9 @@ use Rattle.theory.specs.Ranges.{sum, sum-add, sum-eq, sum-zero, sum-cons
 use Rattle.theory.specs.Model.{budget, rank, Demands, need, released, due, Slot, idle, busy, Run, runs, done, Schedule}
 use Rattle.theory.specs.Responses.{full, fullBudget, hyperperiod, jobs, rests, idleTicks, Accepted}
 use Rattle.theory.specs.Work.{runs-self, runs-other, due-most}
-use Rattle.theory.specs.Backlog.{level, load, backlog, drain-step, done-most, level-add, level-all, backlog-unfinished}
-use Rattle.theory.specs.Existence.{simulate-schedule}
+use Rattle.theory.specs.Level.{level, level-add, level-all}
+use Rattle.theory.specs.Backlog.{load, backlog, drain-step, done-most, backlog-unfinished}
+use Rattle.theory.specs.Existence.{full-schedule}
 use Rattle.theory.specs.Hyperperiod.{jobs-whole}
 use Rattle.theory.specs.Repetition.{hyperperiod-done}
 
@@ -20,7 +21,8 @@ module _ {ts : List Task} {d : Demands} {run : Run} (s : Schedule ts d run) wher
     where
       go : (x : Slot) → run t ≡ x → sum (length ts) (λ j. runs j x) + rests x ≡ 1
       go idle e = omega (arith, sum-zero (length ts) (λ j. 0) (λ j l. refl))
-      go (busy i) e = omega (arith, sum-point (length ts) i (λ j. runs j (busy i)) (s .runs-known t i e) (λ j l q. runs-other q), runs-self i)
+      go (busy i) e =
+          omega (arith, sum-point (length ts) i (λ j. runs j (busy i)) (s .runs-known t i e) (λ j l q. runs-other q), runs-self i)
 
   -- The ticks of the tasks and the idle ticks add up.
   pub ticks-add-up : (t : ℕ) → sum (length ts) (λ j. done run j t) + sum t (λ x. rests (run x)) ≡ t
@@ -29,7 +31,8 @@ module _ {ts : List Task} {d : Demands} {run : Run} (s : Schedule ts d run) wher
   ticks-add-up (suc t) = omega (arith, sum-add (length ts) (λ j. done run j t) (λ j. runs j (run t)), ticks-add-up t, tick-shared t)
 
   -- A tick is idle exactly where the level of the lowest rank, which is all tasks, has no work left and gets none.
-  pub idle-backlog : (i : ℕ) → ((j : ℕ) → j < length ts → rank ts i ≤ rank ts j) → (t : ℕ) → rests (run t) ≡ 1 - (backlog ts d i t + load ts d i t)
+  pub idle-backlog : (i : ℕ) → ((j : ℕ) → j < length ts → rank ts i ≤ rank ts j) → (t : ℕ)
+      → rests (run t) ≡ 1 - (backlog ts d i t + load ts d i t)
   unfolding done due sum load
   idle-backlog i lowest t = omega (
     arith,
@@ -51,11 +54,15 @@ module _ {ts : List Task} (ok : Accepted ts) where
         arith,
         hyperperiod-done ok i l,
         sum-const (jobs ts i) (budget ts i),
-        done-most (simulate-schedule ts (full ts)) i (hyperperiod ts),
+        done-most (full-schedule ts) i (hyperperiod ts),
         due-most ts (full ts) i (ok .proper .period-positive i l) (jobs ts i) (hyperperiod ts) (omega (arith, jobs-whole (ok .proper) i l)),
       )
 
   -- and these and the idle ticks add up to H."
   pub idle-adds-up : sum (length ts) (λ i. budget ts i * jobs ts i) + idleTicks ts ≡ hyperperiod ts
   unfolding idleTicks
-  idle-adds-up = rw (← sum-eq (length ts) (λ i. done (fullBudget ts) i (hyperperiod ts)) (λ i. budget ts i * jobs ts i) runs-exactly) (ticks-add-up (simulate-schedule ts (full ts)) (hyperperiod ts))
+  idle-adds-up = omega (
+    arith,
+    ticks-add-up (full-schedule ts) (hyperperiod ts),
+    sum-eq (length ts) (λ i. done (fullBudget ts) i (hyperperiod ts)) (λ i. budget ts i * jobs ts i) runs-exactly,
+  )

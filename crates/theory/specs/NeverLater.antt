@@ -18,11 +18,16 @@ use Rattle.theory.specs.Repetition.{never-late, response-period}
 pub full-within : {ts : List Task} → Proper ts → Within ts (full ts)
 full-within good = record { least-one = λ i k l. good .budget-positive i l; most-budget = λ i k l. le-refl _ }
 
-module _ {ts : List Task} (ok : Accepted ts) {d : Demands} {run : Run} (s : Schedule ts d run) (w : Within ts d) (i k : ℕ) (known : i < length ts) where
+module _ {ts : List Task} (ok : Accepted ts) {d : Demands} {run : Run} (s : Schedule ts d run) (w : Within ts d)
+    (i k : ℕ) (known : i < length ts) where
   -- At its full-budget finish a job is done under smaller demands too, as the backlog then is no greater.
   job-done : need d i (suc k) ≤ done run i (release ts i k + response ts i k)
-  job-done = zero-done (ok .proper) s i k known (release ts i k + response ts i k) (x .after) (omega (arith, x .is-zero, backlog-mono ts d (full ts) (λ j k m. w .most-budget j k m) i (release ts i k + response ts i k)))
+  job-done =
+      zero-done (ok .proper) s i k known z (x .after) (omega (arith, x .is-zero, backlog-mono ts d (full ts) (λ j k m. w .most-budget j k m) i z))
     where
+      z : ℕ
+      z = release ts i k + response ts i k
+
       x : FirstZero (fullBacklog ts i) (release ts i k) (release ts i k + response ts i k)
       x = response-first-zero (ok .proper) i k known (never-late ok i known k)
 
@@ -44,10 +49,12 @@ finish-response-later {ts} ok {d} {run} s w i k m f l h x = go (ℕ-discrete k m
   where
     go : Dec (k ≡ m) → f ≤ release ts i m + response ts i m
     go (yes e) = finish-response ok s w i m l f (subst (λ y. Finishes d run i y f) e x)
-    go (no e) = omega (arith, finish-response ok s w i k l f x, response-period ok i l k, mul-le-mul-right {m = suc k} {n = m} (period ts i) (omega arith))
+    go (no e) =
+        omega (arith, finish-response ok s w i k l f x, response-period ok i l k, mul-le-mul-right {m = suc k} {n = m} (period ts i) (omega arith))
 
 -- Earlier, never later.
-pub never-later : {ts : List Task} (ok : Accepted ts) {d : Demands} {run run′ : Run} → Schedule ts d run → Within ts d → Schedule ts (full ts) run′
+pub never-later : {ts : List Task} (ok : Accepted ts) {d : Demands} {run run′ : Run} → Schedule ts d run → Within ts d
+    → Schedule ts (full ts) run′
     → (i k f g : ℕ) → i < length ts → Finishes d run i k f → Finishes (full ts) run′ i k g → f ≤ g
 never-later ok s w s′ i k f g l x y =
     omega (arith, finish-response ok s w i k l f x, finish-unique y (response-finishes (ok .proper) i k l (never-late ok i l k) s′))

@@ -35,7 +35,8 @@ response-two k = go (ℕ-discrete (k % 2) 0)
 
 response-three : (k : ℕ) → response quartet 3 k ≡ 5
 unfolding hyperperiod
-response-three k = response-jobs quartet-accepted 3 (omega arith) k ∙ ap (response quartet 3) (mod-one k) ∙ quartet-rows .3 .each 0 (omega arith)
+response-three k =
+    response-jobs quartet-accepted 3 (omega arith) k ∙ ap (response quartet 3) (mod-one k) ∙ quartet-rows .3 .each 0 (omega arith)
 
 budget-one : (i : ℕ) → i < 4 → budget quartet i ≡ 1
 unfolding decide all? ℕ-discrete
@@ -54,7 +55,13 @@ module _ {d : Demands} {run : Run} (w : Within quartet d) (s : Schedule quartet 
 
   finishes : (i k : ℕ) → i < 4 → Finishes d run i k (release quartet i k + response quartet i k)
   unfolding need
-  finishes i k l = record { last = x .last; is-next = x .is-next; runs-last = x .runs-last; done-by = x .done-by ∙ sum-eq (suc k) _ _ (λ j m. sym (demand-full i j l)) }
+  finishes i k l =
+      record {
+        last = x .last;
+        is-next = x .is-next;
+        runs-last = x .runs-last;
+        done-by = x .done-by ∙ sum-eq (suc k) _ _ (λ j m. sym (demand-full i j l));
+      }
     where
       x : Finishes (full quartet) run i k (release quartet i k + response quartet i k)
       x = response-finishes (quartet-accepted .proper) i k l (never-late quartet-accepted i l k) full-run
@@ -64,7 +71,11 @@ module _ {d : Demands} {run : Run} (w : Within quartet d) (s : Schedule quartet 
   finishes-three m = subst (Finishes d run 3 m) (omega (arith, response-three m)) (finishes 3 m (omega arith))
 
   starts-three : (m : ℕ) → Starts d run 3 m (m * 6 + 4)
-  starts-three m = record { runs-first = last; done-before = omega (arith, done-busy run 3 (m * 6 + 4) last, finishes-three m .done-by, need-step d 3 m, demand-full 3 m (omega arith)) }
+  starts-three m =
+      record {
+        runs-first = last;
+        done-before = omega (arith, done-busy run 3 (m * 6 + 4) last, finishes-three m .done-by, need-step d 3 m, demand-full 3 m (omega arith));
+      }
     where
       last : run (m * 6 + 4) ≡ busy 3
       last = ap run (omega (arith, finishes-three m .is-next)) ∙ finishes-three m .runs-last

@@ -102,7 +102,8 @@ unfolding maximum
 maximum-reached zero f h = absurd (omega arith)
 maximum-reached (suc n) f h = go (decLe (maximum n f) (f n)) (ℕ-discrete n 0) (maximum-reached n f)
   where
-    go : Dec (maximum n f ≤ f n) → Dec (n ≡ 0) → (0 < n → (k : ℕ) × (k < n) × (f k ≡ maximum n f)) → (k : ℕ) × (k < suc n) × (f k ≡ max (maximum n f) (f n))
+    go : Dec (maximum n f ≤ f n) → Dec (n ≡ 0) → (0 < n → (k : ℕ) × (k < n) × (f k ≡ maximum n f))
+        → (k : ℕ) × (k < suc n) × (f k ≡ max (maximum n f) (f n))
     go (yes e) z rec = (n, le-refl _, omega arith)
     go (no e) (yes z) rec = absurd (omega (arith, ap (λ x. maximum x f) z))
     go (no e) (no z) rec = let r = rec (omega arith) in (r .0, omega (arith, r .1), omega (arith, r .2))

@@ -13,7 +13,8 @@ use Rattle.theory.specs.Model.{period, release, budget, Proper, need, re
 use Rattle.theory.specs.Responses.{full, fullBudget, response, hyperperiod, jobs, taskResponse, Late, Accepted}
 use Rattle.theory.specs.Ranges.{maximum-above}
 use Rattle.theory.specs.Work.{due-most}
-use Rattle.theory.specs.Backlog.{fullBacklog, load, drain, backlog, level-eq, empty-backlog}
+use Rattle.theory.specs.Level.{level-eq}
+use Rattle.theory.specs.Backlog.{fullBacklog, load, drain, backlog, empty-backlog}
 use Rattle.theory.specs.Finish.{FirstZero}
 use Rattle.theory.specs.Existence.{full-schedule}
 use Rattle.theory.specs.Hyperperiod.{jobs-whole, jobs-positive, jobs-released}
@@ -32,7 +33,8 @@ module _ {ts : List Task} (ok : Accepted ts) where
     where
       go : (q : ℕ) → jobs ts i ≡ q → need (full ts) i q ≤ done (fullBudget ts) i H
       go zero e = absurd (omega (arith, jobs-positive good i l))
-      go (suc q) e = subst (λ x. need (full ts) i (suc q) ≤ done (fullBudget ts) i x) (ap (release ts i) (sym e) ∙ jobs-whole good i l) (omega (arith, on-time))
+      go (suc q) e =
+          subst (λ x. need (full ts) i (suc q) ≤ done (fullBudget ts) i x) (ap (release ts i) (sym e) ∙ jobs-whole good i l) (omega (arith, on-time))
         where
           on-time : ¬ (Late ts i q)
           on-time late = ok .none-late i l (q, jobs-released good i l q (omega arith), late)
@@ -40,7 +42,8 @@ module _ {ts : List Task} (ok : Accepted ts) where
   -- so every level is then empty, as at 0,
   pub backlog-hyperperiod : (i : ℕ) → fullBacklog ts i H ≡ 0
   backlog-hyperperiod i = empty-backlog (full-schedule ts) i H
-      (λ j l r. le-trans (due-most ts (full ts) j (good .period-positive j l) (jobs ts j) H (omega (arith, jobs-whole good j l))) (hyperperiod-done j l))
+      (λ j l r. le-trans (due-most ts (full ts) j (good .period-positive j l) (jobs ts j) H (omega (arith, jobs-whole good j l)))
+      (hyperperiod-done j l))
 
   -- and from there on the same releases come again.
   load-again : (i t : ℕ) → load ts (full ts) i (t + H) ≡ load ts (full ts) i t
@@ -69,8 +72,10 @@ module _ {ts : List Task} (ok : Accepted ts) where
   module _ (i : ℕ) (known : i < length ts) where
     -- So do its zeros: the job H later is on time too, with the same response.
     job-again : (k : ℕ) → ¬ (Late ts i k) → ¬ (Late ts i (k + jobs ts i)) × (response ts i (k + jobs ts i) ≡ response ts i k)
-    job-again k on-time =
-        (zero-on-time good i (k + jobs ts i) known z (x .after) soon (x .is-zero), omega (arith, later, first-zero-response good i (k + jobs ts i) known z soon x))
+    job-again k on-time = (
+      zero-on-time good i (k + jobs ts i) known z (x .after) soon (x .is-zero),
+      omega (arith, later, first-zero-response good i (k + jobs ts i) known z soon x),
+    )
       where
         z : ℕ
         z = release ts i k + response ts i k + H
@@ -89,7 +94,8 @@ module _ {ts : List Task} (ok : Accepted ts) where
       where
         same : k + 0 * jobs ts i ≡ k
         same = omega arith
-    job-turns k (suc m) on-time = let x = job-turns k m on-time in let y = job-again (k + m * jobs ts i) (x .0) in rw next (y .0, y .1 ∙ x .1)
+    job-turns k (suc m) on-time =
+        let x = job-turns k m on-time in let y = job-again (k + m * jobs ts i) (x .0) in rw next (y .0, y .1 ∙ x .1)
       where
         next : k + suc m * jobs ts i ≡ k + m * jobs ts i + jobs ts i
         next = omega arith
@@ -120,7 +126,8 @@ module _ {ts : List Task} (ok : Accepted ts) where
 
     -- "A job released at or after H has the response of the job released at its release modulo H."
     pub response-modulo : (k : ℕ) → response ts i k ≡ response ts i (release ts i k % H / period ts i)
-    response-modulo k = response-jobs k ∙ ap (response ts i) (sym (ap (λ x. x / period ts i) turn ∙ mul-div-cancel (k % jobs ts i) (good .period-positive i known)))
+    response-modulo k =
+        response-jobs k ∙ ap (response ts i) (sym (ap (λ x. x / period ts i) turn ∙ mul-div-cancel (k % jobs ts i) (good .period-positive i known)))
       where
         parts : release ts i k ≡ k / jobs ts i * H + release ts i (k % jobs ts i)
         parts = ap (release ts i) (sym (turned k)) ∙ omega (arith, ap (λ x. k / jobs ts i * x) (jobs-whole good i known))
@@ -131,4 +138,5 @@ module _ {ts : List Task} (ok : Accepted ts) where
     -- The response of a task is the greatest of all its jobs.
     pub response-greatest : (k : ℕ) → response ts i k ≤ taskResponse ts i
     unfolding taskResponse
-    response-greatest k = rw (response-jobs k) (maximum-above (jobs ts i) (response ts i) (k % jobs ts i) (mod-lt k (jobs-positive good i known)))
+    response-greatest k =
+        rw (response-jobs k) (maximum-above (jobs ts i) (response ts i) (k % jobs ts i) (mod-lt k (jobs-positive good i known)))

@@ -29,7 +29,8 @@ module _ (ts : List Task) (i k : ℕ) where
 
   pub finish-done : finish ts i k ≤ release ts i (suc k) → need (full ts) i (suc k) ≤ done (fullBudget ts) i (finish ts i k)
   unfolding finish reached
-  finish-done l = leb-true (need (full ts) i (suc k)) (done (fullBudget ts) i (finish ts i k)) (least-passes (suc (release ts i (suc k))) reached (omega arith))
+  finish-done l =
+      leb-true (need (full ts) i (suc k)) (done (fullBudget ts) i (finish ts i k)) (least-passes (suc (release ts i (suc k))) reached (omega arith))
 
   pub done-finish : (f : ℕ) → need (full ts) i (suc k) ≤ done (fullBudget ts) i f → finish ts i k ≤ f
   unfolding finish reached
@@ -45,7 +46,8 @@ module _ (ts : List Task) (i k : ℕ) where
   pub late-response : Late ts i k → response ts i k ≡ suc (period ts i)
   unfolding response
   late-response late =
-      let no : ¬ (finish ts i k ≤ release ts i (suc k)) = λ l. omega (arith, finish-done l, done-grows (fullBudget ts) i (finish ts i k) (release ts i (suc k)) l) in
+      let no : ¬ (finish ts i k ≤ release ts i (suc k)) = λ l.
+      omega (arith, finish-done l, done-grows (fullBudget ts) i (finish ts i k) (release ts i (suc k)) l) in
       omega (arith, finish-most)
 
 module _ {ts : List Task} (good : Proper ts) (i k : ℕ) (known : i < length ts) where
@@ -65,7 +67,8 @@ module _ {ts : List Task} (good : Proper ts) (i k : ℕ) (known : i < length ts)
         subst (FirstZero (fullBacklog ts i) (release ts i k)) (omega (
           arith,
           z .2 .after,
-          finish-finishes ts i k (z .0) (z .1) (first-zero-finish good (full-schedule ts) i k known (z .0) (good .budget-positive i known) (z .1) (z .2)),
+          finish-finishes ts i k (z .0) (z .1)
+              (first-zero-finish good (full-schedule ts) i k known (z .0) (good .budget-positive i known) (z .1) (z .2)),
         )) (z .2)
 
     -- is at most the period,
@@ -75,10 +78,12 @@ module _ {ts : List Task} (good : Proper ts) (i k : ℕ) (known : i < length ts)
     -- and is what the job takes to finish in every schedule with full budgets.
     pub response-finishes : {run : Run} → Schedule ts (full ts) run → Finishes (full ts) run i k (release ts i k + response ts i k)
     response-finishes s =
-        first-zero-finish good s i k known (release ts i k + response ts i k) (good .budget-positive i known) (omega (arith, response-most)) response-first-zero
+        first-zero-finish good s i k known (release ts i k + response ts i k) (good .budget-positive i known)
+        (omega (arith, response-most)) response-first-zero
 
   -- The first zero, if it is no later than the next release, tells the response.
-  pub first-zero-response : (z : ℕ) → z ≤ release ts i (suc k) → FirstZero (fullBacklog ts i) (release ts i k) z → release ts i k + response ts i k ≡ z
+  pub first-zero-response : (z : ℕ) → z ≤ release ts i (suc k) → FirstZero (fullBacklog ts i) (release ts i k) z
+      → release ts i k + response ts i k ≡ z
   first-zero-response z l x = first-zero-unique (response-first-zero (zero-on-time z (x .after) l (x .is-zero))) x
 
   -- A job is late exactly where the backlog has no zero after its release and up to the next.
@@ -86,4 +91,5 @@ module _ {ts : List Task} (good : Proper ts) (i k : ℕ) (known : i < length ts)
   late-no-zero late z l m = pos-of-ne-zero (λ e. zero-on-time z l m e late)
 
   pub no-zero-late : ((z : ℕ) → release ts i k < z → z ≤ release ts i (suc k) → 0 < fullBacklog ts i z) → Late ts i k
-  no-zero-late none = lt-of-not-le (λ h. let z = zero-within (λ late. omega arith) in omega (arith, none (z .0) (z .2 .after) (z .1), z .2 .is-zero))
+  no-zero-late none =
+      lt-of-not-le (λ h. let z = zero-within (λ late. omega arith) in omega (arith, none (z .0) (z .2 .after) (z .1), z .2 .is-zero))

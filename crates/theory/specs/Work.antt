@@ -50,15 +50,23 @@ pub done-grows : (run : Run) (i t u : ℕ) → t ≤ u → done run i t ≤ done
 unfolding done
 done-grows run i = sum-grows (λ x. runs i (run x))
 
--- A count that a task passes, it has at a tick in which it runs.
-pub done-passes : (run : Run) (i x f : ℕ) → x < done run i f → (t : ℕ) × (t < f) × (run t ≡ busy i) × (done run i t ≡ x)
+-- A count that a task passes by f, it has at a tick before f in which it runs.
+pub record Passes (run : Run) (i x f : ℕ) : Type 0 where
+  pub at : ℕ
+  pub before : at < f
+  pub runs-then : run at ≡ busy i
+  pub counts : done run i at ≡ x
+
+pub done-passes : (run : Run) (i x f : ℕ) → x < done run i f → Passes run i x f
 unfolding done sum
 done-passes run i x zero h = absurd (omega arith)
 done-passes run i x (suc f) h = go (ℕ-discrete (done run i f) x) (done-passes run i x f)
   where
-    go : Dec (done run i f ≡ x) → (x < done run i f → (t : ℕ) × (t < f) × (run t ≡ busy i) × (done run i t ≡ x)) → (t : ℕ) × (t < suc f) × (run t ≡ busy i) × (done run i t ≡ x)
-    go (yes e) rec = (f, omega arith, runs-busy i (run f) (omega arith), e)
-    go (no e) rec = let r = rec (omega (arith, runs-most i (run f))) in (r .0, omega (arith, r .1), r .2, r .3)
+    go : Dec (done run i f ≡ x) → (x < done run i f → Passes run i x f) → Passes run i x (suc f)
+    go (yes e) rec = record { at = f; before = omega arith; runs-then = runs-busy i (run f) (omega arith); counts = e }
+    go (no e) rec =
+        let p = rec (omega (arith, runs-most i (run f))) in
+        record { at = p .at; before = omega (arith, p .before); runs-then = p .runs-then; counts = p .counts }
 
 -- Work needed
 
@@ -90,7 +98,7 @@ module _ (ts : List Task) (d : Demands) (i : ℕ) (positive : 0 < period ts i) w
   due-jobs zero = rw (zero-mod T, zero-div T)
   due-jobs (suc t) = go (ℕ-discrete (suc (t % T)) T) (due-jobs t)
     where
-      go : Dec (suc (t % T) ≡ T) → sum (suc t) (released ts d i) ≡ sum (suc (t / T)) (d i) → sum (suc (suc t)) (released ts d i) ≡ sum (suc (suc t / T)) (d i)
+      go : Dec (suc (t % T) ≡ T) → due ts d i (suc t) ≡ need d i (suc (t / T)) → due ts d i (suc (suc t)) ≡ need d i (suc (suc t / T))
       go (yes e) h = rw (over, next) (omega (arith, h))
         where
           over : suc t % T ≡ 0

@@ -3,7 +3,7 @@ use mathlib.Core.Path.{_≡_, refl, ap, _∙_}
 use mathlib.Core.Logic.{_⊎_, inl, inr}
 use mathlib.Core.List.{List}
 use Prim.Native.Nat.{ℕ, zero, suc, _+_, _-_, _/_, _%_, _≤_, _<_}
-use native.Mathlib.Nat.{le-refl}
+use native.Mathlib.Nat.{le-refl, add-zero}
 use native.Mathlib.Omega.{arith}
 use native.Mathlib.Decide.{decLe, decLt}
 use lib.Dec.{eqb}
@@ -35,6 +35,23 @@ fullBacklog ts = backlog ts (full ts)
 pub drain-step : (a : ℕ → ℕ) (t : ℕ) → drain a (suc t) ≡ (drain a t + a t) - 1
 unfolding drain
 drain-step a t = refl
+
+-- Over ticks in which nothing comes in, one unit leaves at each while there is any.
+pub drain-stretch : (a : ℕ → ℕ) (t n : ℕ) → ((x : ℕ) → t < x → x ≤ t + n → a x ≡ 0) → drain a (suc (t + n)) ≡ (drain a t + a t) - suc n
+drain-stretch a t zero quiet = ap (λ x. drain a (suc x)) (add-zero t) ∙ drain-step a t
+drain-stretch a t (suc n) quiet = ap (λ x. drain a (suc x)) next ∙ drain-step a (suc (t + n))
+    ∙ omega (arith, drain-stretch a t n (λ x l m. quiet x l (omega arith)), quiet (suc (t + n)) (omega arith) (omega arith))
+  where
+    next : t + suc n ≡ suc (t + n)
+    next = omega arith
+
+-- The recursion of the backlog: nothing at 0, and in each tick what is released comes in and one unit is done.
+pub backlog-start : (ts : List Task) (d : Demands) (i : ℕ) → backlog ts d i 0 ≡ 0
+unfolding drain
+backlog-start ts d i = refl
+
+pub backlog-step : (ts : List Task) (d : Demands) (i t : ℕ) → backlog ts d i (suc t) ≡ (backlog ts d i t + load ts d i t) - 1
+backlog-step ts d i t = drain-step (load ts d i) t
 
 -- What the tasks of a level have done before tick t, what is due of them, and their ticks in a slot.
 abbrev pub levelDone : List Task → Run → ℕ → ℕ → ℕ

@@ -58,15 +58,18 @@ unfolding gcd up
 bound ts R p [] = R p
 bound ts R p (c ∷ rest) = (period ts c - common ts p c) + cond (outranks ts c p) (up (common ts p c) (R p)) 0 + bound ts R c rest
 
--- A hand-over in a run: job k of p writes when it finishes, and job m of c is the first that starts, and so reads, at or after the write:
--- "A read at tick t has the newest write made at or before t."
+-- "A read at tick t has the newest write made at or before t": a read has the write of a job.
+abbrev pub Has : ℕ → ℕ → Type 0
+Has read write = write ≤ read
+
+-- A hand-over in a run: job k of p writes when it finishes, and job m of c is the first that starts, and so reads, with that write.
 pub record HandOver (d : Demands) (run : Run) (p c k m : ℕ) : Type 0 where
   pub write : ℕ
   pub finishes : Finishes d run p k write
   pub read : ℕ
   pub starts : Starts d run c m read
-  pub in-time : write ≤ read
-  pub first : (x t : ℕ) → Starts d run c x t → write ≤ t → m ≤ x
+  pub in-time : Has read write
+  pub first : (x t : ℕ) → Starts d run c x t → Has t write → m ≤ x
 
 -- The path of a reading from job k of p on: it is handed over from task to task, and ends when the last job finishes, at f.
 abbrev pub PathEnds : Demands → Run → ℕ → List ℕ → ℕ → ℕ → Type 0

@@ -2,7 +2,7 @@
 use mathlib.Core.Path.{_≡_, subst}
 use mathlib.Core.List.{List}
 use Prim.Native.Nat.{ℕ, suc, _+_, _≤_, _<_}
-use native.Mathlib.Nat.{le-refl, mul-le-mul-right}
+use native.Mathlib.Nat.{mul-le-mul-right}
 use native.Mathlib.Omega.{arith}
 use native.Mathlib.Decide.{ℕ-discrete}
 use lib.ListN.{length}
@@ -16,7 +16,7 @@ use Rattle.theory.specs.Repetition.{never-late, response-period}
 
 -- Full budgets are demands from 1 to C.
 pub full-within : {ts : List Task} → Proper ts → Within ts (full ts)
-full-within good = record { least-one = λ i k l. good .budget-positive i l; most-budget = λ i k l. le-refl _ }
+full-within good = record { least-one = λ i k l. good .budget-positive i l; most-budget = λ i k l. omega arith }
 
 module _ {ts : List Task} (ok : Accepted ts) {d : Demands} {run : Run} (s : Schedule ts d run) (w : Within ts d)
     (i k : ℕ) (known : i < length ts) where

@@ -45,10 +45,10 @@ module _ (ts : List Task) (i k : ℕ) where
   -- The response of a late job is T + 1.
   pub late-response : Late ts i k → response ts i k ≡ suc (period ts i)
   unfolding response
-  late-response late =
-      let no : ¬ (finish ts i k ≤ release ts i (suc k)) = λ l.
-      omega (arith, finish-done l, done-grows (fullBudget ts) i (finish ts i k) (release ts i (suc k)) l) in
-      omega (arith, finish-most)
+  late-response late = let no : ¬ (finish ts i k ≤ release ts i (suc k)) = unfinished in omega (arith, finish-most)
+    where
+      unfinished : ¬ (finish ts i k ≤ release ts i (suc k))
+      unfinished l = omega (arith, finish-done l, done-grows (fullBudget ts) i (finish ts i k) (release ts i (suc k)) l)
 
 module _ {ts : List Task} (good : Proper ts) (i k : ℕ) (known : i < length ts) where
   -- Where the backlog is 0 between a job's release and its task's next one, the job is on time.
@@ -63,13 +63,13 @@ module _ {ts : List Task} (good : Proper ts) (i k : ℕ) (known : i < length ts)
     -- The response of a job that is on time ends at the first zero of the backlog after its release,
     pub response-first-zero : FirstZero (fullBacklog ts i) (release ts i k) (release ts i k + response ts i k)
     unfolding response
-    response-first-zero = let z = zero-within in
-        subst (FirstZero (fullBacklog ts i) (release ts i k)) (omega (
-          arith,
-          z .2 .after,
-          finish-finishes ts i k (z .0) (z .1)
-              (first-zero-finish good (full-schedule ts) i k known (z .0) (good .budget-positive i known) (z .1) (z .2)),
-        )) (z .2)
+    response-first-zero = subst (FirstZero (fullBacklog ts i) (release ts i k)) (omega (arith, zero-within .2 .after, at)) (zero-within .2)
+      where
+        there : Finishes (full ts) (fullBudget ts) i k (zero-within .0)
+        there = first-zero-finish good (full-schedule ts) i k known (zero-within .0) (good .budget-positive i known) (zero-within .1) (zero-within .2)
+
+        at : finish ts i k ≡ zero-within .0
+        at = finish-finishes ts i k (zero-within .0) (zero-within .1) there
 
     -- is at most the period,
     pub response-most : response ts i k ≤ period ts i

@@ -2,6 +2,7 @@
 use mathlib.Core.Path.{_≡_, refl, ap, _∙_}
 use mathlib.Core.List.{List}
 use Prim.Native.Nat.{ℕ, zero, suc, _+_, _-_, _≤_, _<_}
+use native.Mathlib.Nat.{lt-of-not-le}
 use native.Mathlib.Omega.{arith}
 use native.Mathlib.Decide.{decLt}
 use lib.ListN.{length}
@@ -86,3 +87,11 @@ response-clearing {ts} good i k known = go (decLt (done (fullBudget ts) i (relea
         early : suc w ≤ response ts i k
         early =
             omega (arith, until-first a (period ts i) (drain a (suc r)) (suc r) (response ts i k - 1) refl (ap (drain a) same ∙ x .is-zero), x .after)
+
+-- A job is late exactly where that takes longer than the period.
+module _ {ts : List Task} (good : Proper ts) (i k : ℕ) (known : i < length ts) where
+  pub clearing-late : period ts i < clearing ts i k → Late ts i k
+  clearing-late l = lt-of-not-le (λ h. omega (arith, response-most good i k known (λ late. omega arith), response-clearing good i k known))
+
+  pub late-clearing : Late ts i k → period ts i < clearing ts i k
+  late-clearing late = omega (arith, late-response ts i k late, response-clearing good i k known)

@@ -23,9 +23,9 @@ pub record GreatestDelay (ts : List Task) (p : ℕ) (rest : List ℕ) (figure at
   pub before : at < hyperperiod ts
   pub smallest : (k : ℕ) → delay ts (response ts) p rest (release ts p k) ≡ figure → at ≤ release ts p k
 
-repeating : {ts : List Task} → Accepted ts → (p : ℕ) (rest : List ℕ) (k : ℕ) → Chain ts p rest
+figure-greatest : {ts : List Task} → Accepted ts → (p : ℕ) (rest : List ℕ) (k : ℕ) → Chain ts p rest
     → delay ts (response ts) p rest (release ts p k) ≤ worst ts (response ts) p rest
-repeating {ts} accepted = delay-worst (accepted .proper) (response ts) (λ i m l. response-again accepted i l m)
+figure-greatest {ts} accepted = delay-worst (accepted .proper) (response ts) (λ i m l. response-again accepted i l m)
 
 -- 1. No schedule exceeds the figure. For every accepted sheet, all demands of 1 to C, every run that is a schedule for them and every job
 -- of the chain's first task: its path exists, and ends no later than the worst figure after its release.
@@ -35,7 +35,7 @@ pub no-schedule-exceeds :
     → ((f : ℕ) × PathEnds d run p rest k f) × ((f : ℕ) → PathEnds d run p rest k f → f ≤ release ts p k + worst ts (response ts) p rest)
 no-schedule-exceeds ts accepted p rest chain d within run schedule k = (
   path-exists accepted schedule within p rest chain k,
-  λ f path. omega (arith, path-within accepted schedule within p rest chain k k f (le-refl _) path, repeating accepted p rest k chain),
+  λ f path. omega (arith, path-within accepted schedule within p rest chain k k f (le-refl _) path, figure-greatest accepted p rest k chain),
 )
 
 -- 2. The figure never exceeds the quick bound.
@@ -70,7 +70,7 @@ pub worst-of-all :
     (ts : List Task) (accepted : Accepted ts) (p : ℕ) (rest : List ℕ) (chain : Chain ts p rest)
     → GreatestDelay ts p rest (worst ts (response ts) p rest) (worstRelease ts (response ts) p rest)
 worst-of-all ts accepted p rest chain = record {
-  greatest = λ k. repeating accepted p rest k chain;
+  greatest = λ k. figure-greatest accepted p rest k chain;
   given = worst-release-delay (accepted .proper) (response ts) p rest known;
   first-task = worst-release-job (accepted .proper) (response ts) p rest known;
   before = worst-release-early (accepted .proper) (response ts) p rest known;

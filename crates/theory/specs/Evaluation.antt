@@ -13,8 +13,7 @@ use Rattle.theory.specs.Ranges.{maximum, below-suc}
 use Rattle.theory.specs.Model.{period, budget, rank, Proper}
 use Rattle.theory.specs.Responses.{response, hyperperiod, jobs, taskResponse, Accepted}
 use Rattle.theory.specs.Hyperperiod.{released-jobs}
-use Rattle.theory.specs.ResponseLaws.{late-response}
-use Rattle.theory.specs.Clearing.{clearing, response-clearing}
+use Rattle.theory.specs.Clearing.{clearing, response-clearing, late-clearing}
 use Rattle.theory.specs.Chain.{Chain, delay, worst, worstRelease, bound}
 use Rattle.theory.specs.ChainLaws.{delay-same, worst-same, worst-release-same, bound-same}
 
@@ -59,10 +58,9 @@ clears? ts = all? (length ts) _ (λ i. all? (jobs ts i) _ (λ k. decLe (clearing
 
 pub clears-accepted : {ts : List Task} → Proper ts
     → ((i : ℕ) → i < length ts → (k : ℕ) → k < jobs ts i → clearing ts i k ≤ period ts i) → Accepted ts
-clears-accepted {ts} good clears = record {
+clears-accepted good clears = record {
   proper = good;
-  none-late = λ i l x.
-      omega (arith, clears i l (x .0) (released-jobs good i l (x .0) (x .1)), response-clearing good i (x .0) l, late-response ts i (x .0) (x .2));
+  none-late = λ i l x. omega (arith, clears i l (x .0) (released-jobs good i l (x .0) (x .1)), late-clearing good i (x .0) l (x .2));
 }
 
 -- The row of task i: its responses, in release order, of the jobs released before H.

@@ -1,4 +1,4 @@
--- Trio, Radio and Quartet of document 01: accepted, with its figures and its rows of responses, by evaluation of the backlog.
+-- Sheets of document 01, by evaluation of the backlog: Trio, Radio and Quartet with their figures and rows of responses, and one that is late.
 use mathlib.Core.Path.{_≡_, refl, _∙_}
 use mathlib.Core.List.{List, [], _∷_}
 use mathlib.Core.Bool.{decide}
@@ -8,11 +8,11 @@ use lib.Dec.{T, ltb, eqb, ltb→lt, eqb→eq}
 use lib.ListN.{length}
 use Rattle.theory.specs.declared.Task.{Task}
 use Rattle.theory.specs.Ranges.{sum, maximum}
-use Rattle.theory.specs.Responses.{response, taskResponse, hyperperiod, jobs, allJobs, idleTicks, Accepted}
+use Rattle.theory.specs.Responses.{LateTask, response, taskResponse, hyperperiod, jobs, allJobs, idleTicks, Accepted}
 use Rattle.theory.specs.Idle.{idle-adds-up}
-use Rattle.theory.specs.Evaluation.{chain?, worst-clearing, worst-release-clearing, bound-clearing, decided, proper?, clears?, clears-accepted, Row, row?, cleared-row}
-use Rattle.theory.specs.Chain.{worst, worstRelease, bound}
-use Rattle.theory.specs.Clearing.{clearing}
+use Rattle.theory.specs.Evaluation.{delay-clearing, chain?, worst-clearing, worst-release-clearing, bound-clearing, decided, proper?, clears?, clears-accepted, Row, row?, cleared-row}
+use Rattle.theory.specs.Chain.{delay, worst, worstRelease, bound}
+use Rattle.theory.specs.Clearing.{clearing, clearing-late}
 
 -- A task (T, C, rank).
 abbrev pub task : ℕ → ℕ → ℕ → Task
@@ -27,7 +27,11 @@ radio = task 20 5 1 ∷ task 6 1 3 ∷ task 12 3 2 ∷ []
 abbrev pub quartet : List Task
 quartet = task 6 1 4 ∷ task 6 1 3 ∷ task 3 1 2 ∷ task 6 1 1 ∷ []
 
--- Accepted
+-- The seventh sheet, which is refused: its first task takes every other tick, so the second is not done with its 2 ticks by 3.
+abbrev pub crowded : List Task
+crowded = task 2 1 2 ∷ task 3 2 1 ∷ []
+
+-- Accepted, or late
 
 accepted : (ts : List Task) → T (decide (proper? ts)) → T (decide (clears? ts)) → Accepted ts
 accepted ts good clears = clears-accepted (decided (proper? ts) good) (decided (clears? ts) clears)
@@ -43,6 +47,10 @@ radio-accepted = accepted radio tt tt
 pub quartet-accepted : Accepted quartet
 unfolding decide proper? clears?
 quartet-accepted = accepted quartet tt tt
+
+pub crowded-late : LateTask crowded 1
+unfolding decide proper? clearing hyperperiod
+crowded-late = (0, omega arith, clearing-late (decided (proper? crowded) tt) 1 0 (omega arith) (omega arith))
 
 -- Hyperperiod, jobs and idle ticks
 
@@ -110,3 +118,14 @@ radio-short-chain = figures radio-accepted 0 (1 ∷ []) tt refl refl refl
 pub quartet-chain : Figures quartet 2 (3 ∷ []) 8 3 8
 unfolding decide chain? worst worstRelease bound clearing
 quartet-chain = figures quartet-accepted 2 (3 ∷ []) tt refl refl refl
+
+-- "Delays 16 at 0, 20 at 20, 12 at 40."
+abbrev pub radioDelay : ℕ → ℕ
+radioDelay = delay radio (response radio) 0 (1 ∷ 2 ∷ [])
+
+pub radio-delays : (radioDelay 0 ≡ 16) × (radioDelay 20 ≡ 20) × (radioDelay 40 ≡ 12)
+unfolding decide chain? delay clearing
+radio-delays = (walk 0, walk 20, walk 40)
+  where
+    walk : (r : ℕ) → radioDelay r ≡ delay radio (clearing radio) 0 (1 ∷ 2 ∷ []) r
+    walk = delay-clearing (radio-accepted .proper) 0 (1 ∷ 2 ∷ []) (decided (chain? radio 0 (1 ∷ 2 ∷ [])) tt)

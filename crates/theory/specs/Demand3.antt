@@ -1,0 +1,96 @@
+-- Demand 3: no schedule exceeds the worst figure, the figure never exceeds the quick bound, and where ranks rise along the chain it is reached.
+use mathlib.Core.Path.{_≡_, ap, subst}
+use mathlib.Core.List.{List, [], _∷_}
+use Prim.Native.Nat.{ℕ, _+_, _*_, _/_, _≤_, _<_}
+use native.Mathlib.Nat.{le-refl, div-mul-le-self}
+use native.Mathlib.Omega.{arith}
+use lib.ListN.{length}
+use Rattle.theory.specs.declared.Task.{Task}
+use Rattle.theory.specs.Model.{period, release, Demands, Within, Run, Schedule}
+use Rattle.theory.specs.Responses.{full, fullBudget, response, hyperperiod, taskResponse, Accepted}
+use Rattle.theory.specs.Repetition.{response-again, response-greatest}
+use Rattle.theory.specs.Chain.{Chain, delay, worst, worstRelease, bound, PathEnds, Rising}
+use Rattle.theory.specs.ChainLaws.{chain-head, delay-worst, worst-bound, worst-release-job, worst-release-early, worst-release-delay, worst-release-least}
+use Rattle.theory.specs.Paths.{path-unique, path-within, path-exists, path-exact}
+use Rattle.theory.specs.Examples.{quartet, quartet-chain}
+use Rattle.theory.specs.Quartet.{quartet-run, quartet-path}
+
+-- A figure is the greatest delay of the chain over all releases of its first task, and a release the smallest that gives it; it is before H.
+pub record GreatestDelay (ts : List Task) (p : ℕ) (rest : List ℕ) (figure at : ℕ) : Type 0 where
+  pub greatest : (k : ℕ) → delay ts (response ts) p rest (release ts p k) ≤ figure
+  pub given : delay ts (response ts) p rest at ≡ figure
+  pub first-task : release ts p (at / period ts p) ≡ at
+  pub before : at < hyperperiod ts
+  pub smallest : (k : ℕ) → delay ts (response ts) p rest (release ts p k) ≡ figure → at ≤ release ts p k
+
+figure-greatest : {ts : List Task} → Accepted ts → (p : ℕ) (rest : List ℕ) (k : ℕ) → Chain ts p rest
+    → delay ts (response ts) p rest (release ts p k) ≤ worst ts (response ts) p rest
+figure-greatest {ts} accepted = delay-worst (accepted .proper) (response ts) (λ i m l. response-again accepted i l m)
+
+-- 1. No schedule exceeds the figure. For every accepted sheet, all demands of 1 to C, every run that is a schedule for them and every job
+-- of the chain's first task: its path exists, and ends no later than the worst figure after its release.
+pub no-schedule-exceeds :
+    (ts : List Task) (accepted : Accepted ts) (p : ℕ) (rest : List ℕ) (chain : Chain ts p rest)
+    (d : Demands) (within : Within ts d) (run : Run) (schedule : Schedule ts d run) (k : ℕ)
+    → ((f : ℕ) × PathEnds d run p rest k f) × ((f : ℕ) → PathEnds d run p rest k f → f ≤ release ts p k + worst ts (response ts) p rest)
+no-schedule-exceeds ts accepted p rest chain d within run schedule k = (
+  path-exists accepted schedule within p rest chain k,
+  λ f path. omega (arith, path-within accepted schedule within p rest chain k k f (le-refl _) path, figure-greatest accepted p rest k chain),
+)
+
+-- 2. The figure never exceeds the quick bound.
+pub worst-within-bound :
+    (ts : List Task) (accepted : Accepted ts) (p : ℕ) (rest : List ℕ) (chain : Chain ts p rest)
+    → worst ts (response ts) p rest ≤ bound ts (taskResponse ts) p rest
+worst-within-bound ts accepted p rest chain =
+    worst-bound (accepted .proper) (response ts) (taskResponse ts) (λ i k l. response-greatest accepted i l k) p rest chain
+
+-- 3. Where each task on the chain outranks the one before it, the full-budget schedule reaches the figure: the path of the job
+-- at the release that goes with it ends exactly the figure after that release.
+pub worst-reached :
+    (ts : List Task) (accepted : Accepted ts) (p : ℕ) (rest : List ℕ) (chain : Chain ts p rest) (rising : Rising ts p rest)
+    (run : Run) (schedule : Schedule ts (full ts) run)
+    → PathEnds (full ts) run p rest (worstRelease ts (response ts) p rest / period ts p)
+    (worstRelease ts (response ts) p rest + worst ts (response ts) p rest)
+worst-reached ts accepted p rest chain rising run schedule =
+    subst (PathEnds (full ts) run p rest k) (omega (arith, job, ap (delay ts (response ts) p rest) job, gives))
+    (path-exact accepted schedule p rest chain rising k)
+  where
+    k : ℕ
+    k = worstRelease ts (response ts) p rest / period ts p
+
+    job : release ts p k ≡ worstRelease ts (response ts) p rest
+    job = worst-release-job (accepted .proper) (response ts) p rest (chain-head ts p rest chain)
+
+    gives : delay ts (response ts) p rest (worstRelease ts (response ts) p rest) ≡ worst ts (response ts) p rest
+    gives = worst-release-delay (accepted .proper) (response ts) p rest (chain-head ts p rest chain)
+
+-- 4. The figure is the greatest delay over all releases of the first task, not only those before H, and its release the smallest that gives it.
+pub worst-of-all :
+    (ts : List Task) (accepted : Accepted ts) (p : ℕ) (rest : List ℕ) (chain : Chain ts p rest)
+    → GreatestDelay ts p rest (worst ts (response ts) p rest) (worstRelease ts (response ts) p rest)
+worst-of-all ts accepted p rest chain = record {
+  greatest = λ k. figure-greatest accepted p rest k chain;
+  given = worst-release-delay (accepted .proper) (response ts) p rest known;
+  first-task = worst-release-job (accepted .proper) (response ts) p rest known;
+  before = worst-release-early (accepted .proper) (response ts) p rest known;
+  smallest = worst-release-least (accepted .proper) (response ts) p rest known;
+}
+  where
+    known : p < length ts
+    known = chain-head ts p rest chain
+
+-- 5. The figure need not be reached. Quartet has one schedule, whatever the demands within its budgets of 1; its longest delay is 5,
+-- from release 0, where the figure is 8.
+pub quartet-not-reached :
+    (d : Demands) (within : Within quartet d) (run : Run) (schedule : Schedule quartet d run)
+    → ((t : ℕ) → run t ≡ fullBudget quartet t)
+    × PathEnds d run 2 (3 ∷ []) 0 5
+    × ((k f : ℕ) → PathEnds d run 2 (3 ∷ []) k f → f ≤ release quartet 2 k + 5)
+    × (worst quartet (response quartet) 2 (3 ∷ []) ≡ 8)
+quartet-not-reached d within run schedule =
+    (quartet-run within schedule, quartet-path within schedule 0, longest, quartet-chain .is-worst)
+  where
+    longest : (k f : ℕ) → PathEnds d run 2 (3 ∷ []) k f → f ≤ release quartet 2 k + 5
+    longest k f path =
+        omega (arith, path-unique d run 2 (3 ∷ []) k f (k / 2 * 6 + 5) path (quartet-path within schedule k), div-mul-le-self k 2)

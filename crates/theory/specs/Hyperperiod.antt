@@ -1,0 +1,46 @@
+-- Laws of the hyperperiod: the least common multiple of the periods, and a whole number of jobs of each task.
+use mathlib.Core.Path.{_≡_, ap}
+use mathlib.Core.List.{List, [], _∷_}
+use Prim.Native.Nat.{ℕ, zero, suc, _*_, _/_, _<_, _∣_}
+use native.Mathlib.Nat.{dvd-trans, one-dvd, div-mul-cancel, mul-le-mul-right, lt-of-not-le, pos-of-ne-zero}
+use native.Mathlib.Omega.{arith}
+use lib.ListN.{length}
+use Rattle.arith.specs.WholeLaws.{lcm-divides-left, lcm-divides-right, lcm-least, lcm-pos}
+use Rattle.theory.specs.declared.Task.{Task}
+use Rattle.theory.specs.Model.{period, release, Proper}
+use Rattle.theory.specs.Responses.{hyperperiod, jobs}
+
+pub hyperperiod-multiple : (ts : List Task) (i : ℕ) → i < length ts → period ts i ∣ hyperperiod ts
+unfolding hyperperiod
+hyperperiod-multiple [] i l = absurd (omega arith)
+hyperperiod-multiple (x ∷ ts) zero l = lcm-divides-left (x .period) (hyperperiod ts)
+hyperperiod-multiple (x ∷ ts) (suc i) l =
+    dvd-trans (period ts i) (hyperperiod-multiple ts i (omega arith)) (lcm-divides-right (x .period) (hyperperiod ts))
+
+pub hyperperiod-least : (ts : List Task) (m : ℕ) → ((i : ℕ) → i < length ts → period ts i ∣ m) → hyperperiod ts ∣ m
+unfolding hyperperiod
+hyperperiod-least [] m h = one-dvd m
+hyperperiod-least (x ∷ ts) m h =
+    lcm-least (x .period) (hyperperiod ts) (h 0 (omega arith)) (hyperperiod-least ts m (λ i l. h (suc i) (omega arith)))
+
+pub hyperperiod-positive : (ts : List Task) → ((i : ℕ) → i < length ts → 0 < period ts i) → 0 < hyperperiod ts
+unfolding hyperperiod
+hyperperiod-positive [] h = omega arith
+hyperperiod-positive (x ∷ ts) h =
+    lcm-pos (x .period) (hyperperiod ts) (h 0 (omega arith)) (hyperperiod-positive ts (λ i l. h (suc i) (omega arith)))
+
+module _ {ts : List Task} (good : Proper ts) (i : ℕ) (known : i < length ts) where
+  -- H is a whole number of periods of each task.
+  pub jobs-whole : jobs ts i * period ts i ≡ hyperperiod ts
+  jobs-whole = div-mul-cancel (period ts i) (hyperperiod-multiple ts i known)
+
+  pub jobs-positive : 0 < jobs ts i
+  jobs-positive =
+      pos-of-ne-zero (λ e. omega (arith, jobs-whole, ap (λ x. x * period ts i) e, hyperperiod-positive ts (good .period-positive)))
+
+  -- Job k is released before H exactly when it is one of the first H/T.
+  pub jobs-released : (k : ℕ) → k < jobs ts i → release ts i k < hyperperiod ts
+  jobs-released k l = omega (arith, jobs-whole, mul-le-mul-right {m = suc k} {n = jobs ts i} (period ts i) l, good .period-positive i known)
+
+  pub released-jobs : (k : ℕ) → release ts i k < hyperperiod ts → k < jobs ts i
+  released-jobs k l = lt-of-not-le (λ h. omega (arith, jobs-whole, mul-le-mul-right {m = jobs ts i} {n = k} (period ts i) h))

@@ -10,3 +10,4 @@ pub mod FormatLaws
 pub mod RoomLaws
 pub mod Sound
 pub mod RoundTrip
+pub mod Unique

@@ -52,6 +52,27 @@ enum Field {
     Entry(u16),
 }
 
+// Document 01's widths, and what follows from them.
+const COUNT_BITS: u32 = 5;
+
+const PERIOD_BITS: u32 = 17;
+
+const BUDGET_BITS: u32 = 17;
+
+const RANK_BITS: u32 = 8;
+
+const LENGTH_BITS: u32 = 5;
+
+const ENTRY_BITS: u32 = 4;
+
+const TASK_BITS: u32 = PERIOD_BITS + BUDGET_BITS + RANK_BITS;
+
+const BUDGET_AT: u32 = COUNT_BITS + PERIOD_BITS;
+
+const RANK_AT: u32 = BUDGET_AT + BUDGET_BITS;
+
+const COUNTS_BITS: u32 = COUNT_BITS + LENGTH_BITS;
+
 fn wide(x: u8) -> u32
     ensures { λ r. ⌜ r ≡ x ⌝ }
 {
@@ -74,12 +95,12 @@ fn width_of(f: Field) -> u32
     ensures { λ r. ⌜ r ≡ width f ⌝ }
 {
     match f {
-        Field::Count => 5,
-        Field::Period(_) => 17,
-        Field::Budget(_) => 17,
-        Field::Rank(_) => 8,
-        Field::Length => 5,
-        Field::Entry(_) => 4,
+        Field::Count => COUNT_BITS,
+        Field::Period(_) => PERIOD_BITS,
+        Field::Budget(_) => BUDGET_BITS,
+        Field::Rank(_) => RANK_BITS,
+        Field::Length => LENGTH_BITS,
+        Field::Entry(_) => ENTRY_BITS,
     }
 }
 
@@ -88,11 +109,11 @@ fn place_of(n: u16, f: Field) -> u32
 {
     match f {
         Field::Count => 0,
-        Field::Period(i) => 5 + 42 * long(i),
-        Field::Budget(i) => 22 + 42 * long(i),
-        Field::Rank(i) => 39 + 42 * long(i),
-        Field::Length => 5 + 42 * long(n),
-        Field::Entry(i) => 10 + 42 * long(n) + 4 * long(i),
+        Field::Period(i) => COUNT_BITS + TASK_BITS * long(i),
+        Field::Budget(i) => BUDGET_AT + TASK_BITS * long(i),
+        Field::Rank(i) => RANK_AT + TASK_BITS * long(i),
+        Field::Length => COUNT_BITS + TASK_BITS * long(n),
+        Field::Entry(i) => COUNTS_BITS + TASK_BITS * long(n) + ENTRY_BITS * long(i),
     }
 }
 

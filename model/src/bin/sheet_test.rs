@@ -214,7 +214,7 @@ fn main() {
     for (name, content) in files {
         let path = folder.to_string() + name;
         if std::env::args().any(|a| a == "--check") {
-            assert!(std::fs::read(&path).is_ok_and(|old| old == content), "{path} is not what the model says");
+            assert!(std::fs::read(&path).ok() == Some(content), "{path} is not what the model says");
         } else {
             std::fs::write(&path, content).expect("the file can be written");
         }

@@ -11,3 +11,4 @@ pub mod RoomLaws
 pub mod Sound
 pub mod RoundTrip
 pub mod Unique
+pub mod Front

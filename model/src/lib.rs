@@ -1,3 +1,38 @@
-//! An independent model of document 01, written from its words and not from the crates.
+//! An independent model of document 01, written from its words and not from the crates: bits are text, a schedule goes tick by
+//! tick, multiples and divisors are found by trying.
 
+pub mod chain;
+pub mod schedule;
 pub mod sheet;
+
+/// A number of document 01's table; 15 comes with a task.
+#[derive(Clone, Copy, PartialEq, Eq, Debug)]
+pub struct Refusal {
+    pub number: u8,
+    pub task: Option<u8>,
+}
+
+impl From<u8> for Refusal {
+    fn from(number: u8) -> Refusal {
+        Refusal { number, task: None }
+    }
+}
+
+impl std::fmt::Display for Refusal {
+    fn fmt(&self, f: &mut std::fmt::Formatter<'_>) -> std::fmt::Result {
+        write!(f, "refused {}", self.number)?;
+        self.task.map_or(Ok(()), |task| write!(f, " task {task}"))
+    }
+}
+
+/// Writes the files of a test crate, or with --check only says whether those that stand there are these.
+pub fn store(files: &[(&str, Vec<u8>)]) {
+    for (name, content) in files {
+        let path = format!("{}/../crates/{name}", env!("CARGO_MANIFEST_DIR"));
+        if std::env::args().any(|a| a == "--check") {
+            assert!(std::fs::read(&path).ok().as_ref() == Some(content), "{path} is not what the model says");
+        } else {
+            std::fs::write(&path, content).expect("the file can be written");
+        }
+    }
+}

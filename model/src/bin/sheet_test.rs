@@ -2,6 +2,7 @@
 //! With --check it only says whether the files that stand there are these.
 
 use model::sheet::{encoded, judge, memory, packed, raw_bits, read, write, Memory, Task};
+use model::store;
 use std::fmt::Write as _;
 
 #[derive(Default)]
@@ -209,14 +210,5 @@ fn main() {
     where_bytes_end(&mut q);
     two_faults(&mut q);
     in_memory(&mut q);
-    let folder = concat!(env!("CARGO_MANIFEST_DIR"), "/../crates/sheet_test/");
-    let files = [("stdin", q.input), ("stdout", q.output.into_bytes())];
-    for (name, content) in files {
-        let path = folder.to_string() + name;
-        if std::env::args().any(|a| a == "--check") {
-            assert!(std::fs::read(&path).ok() == Some(content), "{path} is not what the model says");
-        } else {
-            std::fs::write(&path, content).expect("the file can be written");
-        }
-    }
+    store(&[("sheet_test/stdin", q.input), ("sheet_test/stdout", q.output.into_bytes())]);
 }

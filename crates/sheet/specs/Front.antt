@@ -2,7 +2,7 @@
 use mathlib.Core.Path.{_≡_, refl, sym, ap, ap₂, _∙_, subst}
 use mathlib.Core.Bool.{Bool, true, false, cond}
 use mathlib.Core.List.{List, [], _∷_, _++_, append-assoc}
-use Prim.Native.Nat.{ℕ, _+_, _*_, _/_, _%_, _≤_, _<_}
+use Prim.Native.Nat.{ℕ, _+_, _-_, _*_, _/_, _%_, _≤_, _<_}
 use native.Mathlib.Omega.{arith}
 use native.Mathlib.Decide.{decLe}
 use lib.Dec.{ltb}
@@ -103,8 +103,9 @@ module _ (bytes : List ℕ) (s : Sheet) (long : 95 ≤ length bytes) where
 
   good-counts : n ≤ 16 → s .length ≤ n → readAs bytes s ≡ also (judgeOf s) (refused 9 [])
   good-counts b c =
+      let pad = number (unpack bytes) (endOf s) (bytesFor (endOf s) * 8 - endOf s) in
       ap₂ (λ j t. also j (also t (given s))) (roomy s room (omega arith))
-      (ap (λ t. also (when t 9) _) (lt-ltb (bytesFor (endOf s)) (length bytes) (omega arith)))
+      (ap (λ t. also (when t 9) (when (ltb 0 pad) 9)) (lt-ltb (bytesFor (endOf s)) (length bytes) (omega arith)))
 
   -- they are refused, if not for a field then for what follows the last
   long-refused : readAs bytes s ≡ also (judgeOf s) (refused 9 [])

@@ -1,0 +1,177 @@
+-- The tasks of a sound sheet: the sixteen places read as a list, which is proper, and sums over it.
+use mathlib.Core.Path.{_≡_, refl, sym, ap, ap₂, _∙_, subst}
+use mathlib.Core.List.{List}
+use mathlib.Core.Bool.{Bool, true, false, cond}
+use Prim.Native.Nat.{ℕ, suc, _+_, _-_, _*_, _/_, _≤_, _<_, _∣_}
+use native.Mathlib.Nat.{le-trans, le-of-dvd, div-le-self}
+use native.Mathlib.Numerals.{add-one}
+use native.Mathlib.Omega.{arith}
+use lib.Dec.{leb}
+use lib.ListN.{length, getD, drop, set, length-take, length-drop, length-set, drop-of-length-le}
+use lib.Seq.{getD-take, getD-drop, drop-cons, getD-set-same, getD-set-other}
+use borrow.Author.Count.{below-more}
+use borrow.Author.Tests.{le-leb, lt-leb}
+use Rattle.arith.specs.Whole.{lcm}
+use Rattle.theory.specs.declared.Task.{Task}
+use Rattle.theory.specs.Ranges.{sum, sum-eq, sum-le, sum-const, sum-grows}
+use Rattle.theory.specs.Model.{none, period, budget, rank}
+use Rattle.theory.specs.Responses.{hyperperiod, jobs, allJobs}
+use Rattle.theory.specs.Hyperperiod.{hyperperiod-multiple, hyperperiod-least, hyperperiod-positive}
+use Rattle.theory.specs.Level.{level}
+use Rattle.sheet.specs.declared.Sheet.{Sheet}
+use Rattle.schedule.specs.Answer.{mostTicks, tasksOf}
+use Rattle.schedule.specs.Steps.{Taken, Period, Places, Level}
+
+-- A task whose T and C are allowed.
+pub record Fine (t : Task) : Type 0 where
+  pub period-positive : 0 < t .period
+  pub period-most : t .period ≤ 100000
+  pub budget-positive : 0 < t .budget
+  pub budget-most : t .budget ≤ t .period
+
+module _ {s : Sheet} (ok : Taken s) where
+  pub place-fine : (i : ℕ) → i < s .count → Fine (getD (s .tasks) i none)
+  place-fine i l = record {
+    period-positive = ok .sound .period-least i l;
+    period-most = ok .sound .period-most i l;
+    budget-positive = ok .sound .budget-least i l;
+    budget-most = ok .sound .budget-most i l;
+  }
+
+  pub tasks-length : length (tasksOf s) ≡ s .count
+  unfolding tasksOf
+  tasks-length = rw length-take (omega (arith, ok .sound .count-most, ok .whole))
+
+  pub task-at : (i : ℕ) → i < s .count → getD (tasksOf s) i none ≡ getD (s .tasks) i none
+  unfolding tasksOf
+  task-at i l = getD-take (s .count) (s .tasks) i none l
+
+  pub task-fine : (i : ℕ) → i < length (tasksOf s) → Fine (getD (tasksOf s) i none)
+  task-fine i l = subst Fine (sym (task-at i (omega (arith, tasks-length)))) (place-fine i (omega (arith, tasks-length)))
+
+  -- The hyperperiod from the last task backwards
+
+  pub multiple-start : 1 ≡ hyperperiod (drop (s .count) (tasksOf s))
+  unfolding hyperperiod
+  multiple-start = rw (drop-of-length-le (tasksOf s) {i = s .count} (omega (arith, tasks-length)))
+
+  pub multiple-step : (i multiple : ℕ) → 0 < i → i ≤ s .count → multiple ≡ hyperperiod (drop i (tasksOf s))
+      → lcm (getD (s .tasks) (i - 1) none .period) multiple ≡ hyperperiod (drop (i - 1) (tasksOf s))
+  unfolding hyperperiod
+  multiple-step i multiple some l e =
+      sym (ap hyperperiod (drop-cons (tasksOf s) (i - 1) none (omega (arith, tasks-length)))
+      ∙ ap₂ (λ x y. lcm (x .period) (hyperperiod (drop y (tasksOf s)))) (task-at (i - 1) (omega arith)) back
+      ∙ ap (lcm (getD (s .tasks) (i - 1) none .period)) (sym e))
+    where
+      back : suc (i - 1) ≡ i
+      back = omega arith
+
+  -- The least common multiple of some periods is no more than that of all.
+  pub multiple-most : (i : ℕ) → hyperperiod (drop i (tasksOf s)) ≤ hyperperiod (tasksOf s)
+  multiple-most i = le-of-dvd (hyperperiod-positive (tasksOf s) (λ j l. task-fine j l .period-positive))
+      (hyperperiod-least (drop i (tasksOf s)) (hyperperiod (tasksOf s)) each)
+    where
+      each : (j : ℕ) → j < length (drop i (tasksOf s)) → period (drop i (tasksOf s)) j ∣ hyperperiod (tasksOf s)
+      each j l = subst (λ x. x .period ∣ hyperperiod (tasksOf s)) (sym (getD-drop i (tasksOf s) j none)) (hyperperiod-multiple (tasksOf s) (i + j) (omega (arith, length-drop i (tasksOf s))))
+
+  -- The jobs of the first tasks
+
+  pub jobs-at : (h i : ℕ) → Period s h → i < s .count → jobs (tasksOf s) i ≡ h / getD (s .tasks) i none .period
+  jobs-at h i p l = ap₂ (λ x y. x / y .period) (sym (p .is-hyperperiod)) (task-at i l)
+
+  pub jobs-next : (h i : ℕ) → Period s h → i < s .count → sum i (jobs (tasksOf s)) + h / getD (s .tasks) i none .period ≡ sum (i + 1) (jobs (tasksOf s))
+  unfolding sum
+  jobs-next h i p l = rw add-one (omega (arith, jobs-at h i p l))
+
+  pub jobs-most : (h i : ℕ) → Period s h → i ≤ s .count → sum i (jobs (tasksOf s)) ≤ i * mostTicks
+  jobs-most h i p l = rw (← sum-const i mostTicks) (sum-le i _ _ (λ j m. le-trans (div-le-self _ _) (omega (arith, p .is-hyperperiod, p .within-limit))))
+
+  pub all-jobs : allJobs (tasksOf s) ≡ sum (s .count) (jobs (tasksOf s))
+  unfolding allJobs
+  all-jobs = ap (λ n. sum n (jobs (tasksOf s))) tasks-length
+
+  pub jobs-within : (h i : ℕ) → Period s h → i < s .count → sum i (jobs (tasksOf s)) + h / getD (s .tasks) i none .period ≤ allJobs (tasksOf s)
+  jobs-within h i p l = omega (arith, jobs-next h i p l, all-jobs, sum-grows (jobs (tasksOf s)) (i + 1) (s .count) (omega arith))
+
+-- The level of task i, gathered from the first n tasks.
+pub record GatheredTo (s : Sheet) (i : ℕ) (periods budgets : List ℕ) (size n : ℕ) : Type 0 where
+  pub places : Places periods budgets size
+  pub within : size ≤ n
+  pub so-far : n ≤ s .count
+  pub sums : (f : ℕ → ℕ → ℕ) → sum size (λ p. f (getD periods p 0) (getD budgets p 0))
+      ≡ sum n (λ j. cond (leb (rank (tasksOf s) i) (rank (tasksOf s) j)) (f (period (tasksOf s) j) (budget (tasksOf s) j)) 0)
+
+module _ {s : Sheet} (ok : Taken s) (i : ℕ) (known : i < s .count) where
+  abbrev ts : List Task
+  ts = tasksOf s
+
+  pub gather-start : (periods budgets : List ℕ) → length periods ≡ 16 → length budgets ≡ 16 → GatheredTo s i periods budgets 0 0
+  unfolding sum
+  gather-start periods budgets a b = record {
+    places = record {
+      few = omega arith;
+      periods-whole = a;
+      budgets-whole = b;
+      period-positive = λ p l. absurd (omega arith);
+      period-most = λ p l. absurd (omega arith);
+      budget-most = λ p l. absurd (omega arith);
+    };
+    within = omega arith;
+    so-far = omega arith;
+    sums = λ f. refl;
+  }
+
+  pub gather-level : {periods budgets : List ℕ} {size : ℕ} → GatheredTo s i periods budgets size (s .count) → Level ts i periods budgets size
+  unfolding level
+  gather-level {periods} {budgets} {size} g = record { places = g .places; sums = λ f. rw (tasks-length ok) (g .sums f) }
+
+  module _ {periods budgets : List ℕ} {size j : ℕ} (g : GatheredTo s i periods budgets size j) (l : j < s .count) where
+    abbrev t : Task
+    t = getD (s .tasks) j none
+
+    same : (f : ℕ → ℕ → ℕ) (b : Bool) → leb (getD (s .tasks) i none .rank) (t .rank) ≡ b
+        → cond (leb (rank ts i) (rank ts j)) (f (period ts j) (budget ts j)) 0 ≡ cond b (f (t .period) (t .budget)) 0
+    same f b e =
+        ap₂ (λ x y. cond (leb (x .rank) (y .rank)) (f (y .period) (y .budget)) 0) (task-at ok i known) (task-at ok j l)
+        ∙ ap (λ x. cond x (f (t .period) (t .budget)) 0) e
+
+    -- Task j outranks task i, or is it: it takes the next place.
+    pub gather-in : getD (s .tasks) i none .rank ≤ t .rank → GatheredTo s i (set periods size (t .period)) (set budgets size (t .budget)) (size + 1) (j + 1)
+    unfolding sum
+    gather-in r = record {
+      places = record {
+        few = omega (arith, g .within, ok .sound .count-most);
+        periods-whole = length-set periods size _ ∙ g .places .periods-whole;
+        budgets-whole = length-set budgets size _ ∙ g .places .budgets-whole;
+        period-positive = below-more (λ p. 0 < getD (set periods size (t .period)) p 0) size
+            (λ p m. rw (others periods (t .period) p m) (g .places .period-positive p m)) (rw here-period (place-fine ok j l .period-positive));
+        period-most = below-more (λ p. getD (set periods size (t .period)) p 0 ≤ 100000) size
+            (λ p m. rw (others periods (t .period) p m) (g .places .period-most p m)) (rw here-period (place-fine ok j l .period-most));
+        budget-most = below-more (λ p. getD (set budgets size (t .budget)) p 0 ≤ 100000) size
+            (λ p m. rw (others budgets (t .budget) p m) (g .places .budget-most p m)) (rw here-budget (omega (arith, place-fine ok j l)));
+      };
+      within = omega (arith, g .within);
+      so-far = omega arith;
+      sums = λ f. rw (add-one size, add-one j) (ap₂ _+_
+          (sum-eq size _ _ (λ p m. ap₂ f (others periods (t .period) p m) (others budgets (t .budget) p m)) ∙ g .sums f)
+          (ap₂ f here-period here-budget ∙ sym (same f true (le-leb _ _ r))));
+    }
+      where
+        others : (xs : List ℕ) (v p : ℕ) → p < size → getD (set xs size v) p 0 ≡ getD xs p 0
+        others xs v p m = getD-set-other xs size p v 0 (λ z. omega arith)
+
+        here-period : getD (set periods size (t .period)) size 0 ≡ t .period
+        here-period = getD-set-same periods size _ 0 (omega (arith, g .places .periods-whole, g .within, ok .sound .count-most))
+
+        here-budget : getD (set budgets size (t .budget)) size 0 ≡ t .budget
+        here-budget = getD-set-same budgets size _ 0 (omega (arith, g .places .budgets-whole, g .within, ok .sound .count-most))
+
+    -- It does not: the places stay.
+    pub gather-out : t .rank < getD (s .tasks) i none .rank → GatheredTo s i periods budgets size (j + 1)
+    unfolding sum
+    gather-out r = record {
+      places = g .places;
+      within = omega (arith, g .within);
+      so-far = omega arith;
+      sums = λ f. rw (add-one j) (omega (arith, g .sums f, same f false (lt-leb _ _ r)));
+    }

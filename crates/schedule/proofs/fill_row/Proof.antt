@@ -1,0 +1,37 @@
+-- The level that was gathered brings its load, so its walk tells the responses.
+use mathlib.Core.Path.{_∙_}
+use Rattle.schedule.proofs.Tasks.{task-at}
+use Rattle.schedule.proofs.Backlogs.{coming-load, walkable, row-filled}
+use borrow.Author.Needs.{needs}
+use Rattle.schedule.proofs.fill_row.Statement.{statement}
+use Rattle.schedule.proofs.fill_row.Tie as tie
+
+gather-requires : tie.Need-gather-requires
+gather-requires c κs = search needs
+
+mul-walk : tie.Need-mul-walk
+mul-walk c = search needs
+
+element-copy-out-walk : tie.Need-element-copy-out-walk
+element-copy-out-walk c = search needs
+
+walk-requires : tie.Need-walk-requires
+walk-requires c κs =
+    let a = c .before .before .before .before .before .before .before in
+    let g = c .before .before .before .gather .ensures in
+    (g .places, rw (coming-load g, ← task-at (a .pre .0) (a .args .i) (a .pre .1 .1 .0), a .pre .1 .1 .1) (walkable (a .pre .0) (a .args .i) (a .pre .1 .1 .0) (a .pre .1 .0)))
+
+same-length : tie.Need-same-length
+same-length c = search needs
+
+returns : tie.Need-returns
+returns c =
+    let a = c .before .before .before .before .before .before .before .before .before .before in
+    let g = c .before .before .before .before .before .before .gather .ensures in
+    let w = c .before .before .walk in
+    row-filled (a .pre .0) (a .args .i) (a .pre .1 .1 .0) (a .pre .1 .0) (w .last .1 .1 .1 .1 .1 .0) (w .result) (w .kept .1 .1 .1 .1 .1 .0 ∙ a .pre .1 .1 .1) (rw (coming-load g, ← task-at (a .pre .0) (a .args .i) (a .pre .1 .1 .0)) at (w .ensures))
+
+pub fill-row-spec : {M : Type 1} → statement M
+fill-row-spec =
+    tie.close
+    (tie.spec gather-requires mul-walk element-copy-out-walk walk-requires same-length returns)

@@ -1,0 +1,83 @@
+-- The rows that `responses` leaves hold each task's responses, so the greatest entry of a row is R of its task.
+use mathlib.Core.Path.{_≡_, refl, sym, ap, _∙_}
+use Prim.Native.Nat.{_+_}
+use native.Mathlib.Omega.{arith}
+use lib.ListN.{length, getD, replicate, length-map}
+use Rattle.bits.specs.Bits.{listOf}
+use Rattle.theory.specs.Ranges.{sum}
+use Rattle.theory.specs.Responses.{jobs}
+use Rattle.sheet.specs.declared.Sheet.{Sheet}
+use Rattle.sheet.specs.declared.Refusal.{Refusal}
+use Rattle.sheet.specs.declared.Refusal.the-variants.{Number, Late}
+use Rattle.sheet.specs.Told.{refusal}
+use Rattle.sheet.specs.Sound.{judged-sound}
+use Rattle.schedule.specs.Answer.{tasksOf, greatestAfter, toldTotals}
+use Rattle.schedule.specs.Results.{responses-given, table-entry}
+use borrow.Author.Needs.{needs}
+use Rattle.schedule.proofs.task_responses.Statement.{statement}
+use Rattle.schedule.proofs.task_responses.Tie as tie
+
+-- a refusal leaves zeros
+greatest-none : (r : Refusal) (s : Sheet) → replicate 16 0 ≡ greatestAfter (refusal r) s
+unfolding listOf
+greatest-none (Number n) s = refl
+greatest-none (Late i) s = refl
+
+responses-requires : tie.Need-responses-requires
+responses-requires c κs = search needs
+
+enum-known-answer : tie.Need-enum-known-answer
+enum-known-answer c = search needs
+
+enum-told : tie.Need-enum-told
+enum-told c = search needs
+
+same-length : tie.Need-same-length
+same-length c = c .before .before .before .before .responses .kept .1 .0
+
+returns : tie.Need-returns
+returns c =
+    let r = c .before .before .before .before .responses in
+    let s = c .before .before .before .before .before .before .before .args .s in
+    (r .ensures .0, (r .ensures .1, greatest-none (c .enum-told .given .0 .0) s ∙ sym (ap (λ a. greatestAfter a s) (sym (r .ensures .0) ∙ ap toldTotals (c .enum-told .given .1)))))
+
+greatest-each-requires : tie.Need-greatest-each-requires
+greatest-each-requires c κs =
+    let a = c .before .before .before .before .before .before .before .before .before in
+    let r = c .before .before .before .before .before .before .responses in
+    let s = a .args .s in
+    let old = a .args .table .now in
+    let e = sym (r .ensures .0) ∙ ap toldTotals (c .before .before .answer .given .1) in
+    let g = responses-given s (length old) e in (
+      record { sound = judged-sound s (g .judged-fine); whole = sym (length-map (s .tasks) _) ∙ a .good .0 .1 .1 .0 .1 .0 .1 },
+      (
+        record { is-hyperperiod = g .hyperperiod-is; within-limit = omega (arith, g) },
+        record {
+          enough = omega (arith, g .jobs-fit, r .kept .1 .0);
+          entry = λ i k l m. ap (λ x. getD x (sum i (jobs (tasksOf s)) + k) 0) (r .ensures .1) ∙ table-entry s old e i k l m;
+        },
+      ),
+    )
+
+same-length-2 : tie.Need-same-length-2
+same-length-2 c = c .before .before .before .before .before .before .before .responses .kept .1 .0
+
+returns-2 : tie.Need-returns-2
+returns-2 c =
+    let r = c .before .before .before .before .before .before .before .responses in
+    let s = c .before .before .before .before .before .before .before .before .before .before .args .s in
+    let e = sym (r .ensures .0) ∙ ap toldTotals (c .before .before .before .answer .given .1) in
+    (sym e, (r .ensures .1, c .greatest-each .ensures ∙ sym (ap (λ a. greatestAfter a s) e)))
+
+pub task-responses-spec : {M : Type 1} → statement M
+task-responses-spec =
+    tie.close
+    (tie.spec
+    responses-requires
+    enum-known-answer
+    enum-told
+    same-length
+    returns
+    greatest-each-requires
+    same-length-2
+    returns-2)

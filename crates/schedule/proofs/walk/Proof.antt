@@ -1,0 +1,153 @@
+-- From release to release of the level one unit of its backlog is done in each tick; a job of the row is done where that ends, and late where it does not by the next release.
+use mathlib.Core.Path.{_≡_, refl}
+use mathlib.Core.Logic.{⊎-elim}
+use Prim.Native.Nat.{_+_, _-_, _≤_}
+use native.Mathlib.Omega.{arith}
+use lib.ListN.{length}
+use Rattle.schedule.specs.Steps.{coming, NextAt}
+use Rattle.schedule.proofs.Draining.{rests-most, Underway, start, release-most, finished, work-fits, waited, blocked, rested-on, place-fits, job-done}
+use Rattle.schedule.proofs.Releases.{turned-gap, turned-next, next-start}
+use borrow.Author.Needs.{needs}
+use Rattle.schedule.proofs.walk.Statement.{statement}
+use Rattle.schedule.proofs.walk.Tie as tie
+
+abbrev Inv-loop : tie.InvT-loop
+Inv-loop periods budgets size period h row₀ next₀ at₀ backlog₀ rests₀ release₀ k₀ row next at backlog rests release k =
+    Underway (coming periods budgets size) period h (length row₀) at backlog rests release k row × (length next ≡ 16) × NextAt periods next size at
+
+abbrev μ-loop : tie.MeasureT-loop
+μ-loop periods budgets size period h row₀ next₀ at₀ backlog₀ rests₀ release₀ k₀ row next at backlog rests release k =
+    h - at
+
+loop-holds : tie.Need-loop-holds Inv-loop μ-loop
+loop-holds c = (start (c .before .pre .1) (c .before .args .row .now) refl, refl, next-start (c .before .pre .0))
+
+turn-requires : tie.Need-turn-requires Inv-loop μ-loop
+turn-requires c κs =
+    let a = c .before .before .before .before in
+    let l = c .before .before .loop in
+    record { places = a .pre .0; next-whole = l .inv .1; next-at = l .inv .2; early = omega arith; short = a .pre .1 .short }
+
+add-work : tie.Need-add-work Inv-loop μ-loop
+add-work c =
+    let a = c .before .before .before .before .before .before in
+    let l = c .before .before .before .before .loop in
+    omega (arith, work-fits (a .pre .1) (l .inv .0) (turned-gap (a .pre .0) (c .before .turn .ensures)))
+
+sub-gap : tie.Need-sub-gap Inv-loop μ-loop
+sub-gap c = search needs
+
+add-if2 : tie.Need-add-if2 Inv-loop μ-loop
+add-if2 c =
+    let a = c .before .before .before .before .before .before .before .before in
+    let l = c .before .before .before .before .before .before .loop in
+    omega (arith, release-most (a .pre .1) (l .inv .0), a .pre .1)
+
+same-length : tie.Need-same-length Inv-loop μ-loop
+same-length c = c .before .before .before .before .before .before .before .before .loop .inv .0 .whole
+
+returns : tie.Need-returns Inv-loop μ-loop
+returns c =
+    let a = c .before .before .before .before .before .before .before .before .before .before in
+    let l = c .before .before .before .before .before .before .before .before .loop in
+    blocked (a .pre .1) (l .inv .0) (turned-gap (a .pre .0) (c .before .before .before .before .before .turn .ensures)) (c .before .before .if1 .taken) (c .if2 .taken)
+
+sub-backlog : tie.Need-sub-backlog Inv-loop μ-loop
+sub-backlog c = search needs
+
+add-row : tie.Need-add-row Inv-loop μ-loop
+add-row c =
+    let a = c .before .before .before .before .before .before .before .before .before in
+    let l = c .before .before .before .before .before .before .before .loop in
+    omega (arith, l .inv .0 .so-far, a .pre .1 .short, work-fits (a .pre .1) (l .inv .0) (turned-gap (a .pre .0) (c .before .before .before .before .turn .ensures)))
+
+sub-row : tie.Need-sub-row Inv-loop μ-loop
+sub-row c = search needs
+
+mul-row : tie.Need-mul-row Inv-loop μ-loop
+mul-row c = search needs
+
+slice-write-row : tie.Need-slice-write-row Inv-loop μ-loop
+slice-write-row c =
+    let a = c .before .before .before .before .before .before .before .before .before in
+    let l = c .before .before .before .before .before .before .before .loop in
+    place-fits (a .pre .1) (l .inv .0) (turned-gap (a .pre .0) (c .before .before .before .before .turn .ensures)) (omega (arith, c .before .if1 .left)) (c .if3 .taken)
+
+add-k : tie.Need-add-k Inv-loop μ-loop
+add-k c =
+    let a = c .before .before .before .before .before .before .before .before .before in
+    let l = c .before .before .before .before .before .before .before .loop in
+    omega (arith, l .inv .0 .few, a .pre .1)
+
+add-release : tie.Need-add-release Inv-loop μ-loop
+add-release c =
+    let a = c .before .before .before .before .before .before .before .before .before in
+    let l = c .before .before .before .before .before .before .before .loop in
+    omega (arith, release-most (a .pre .1) (l .inv .0), a .pre .1)
+
+add-rests : tie.Need-add-rests Inv-loop μ-loop
+add-rests c =
+    let a = c .before .before .before .before .before .before .before .before .before in
+    let l = c .before .before .before .before .before .before .before .loop in
+    omega (arith, l .inv .0 .rests-are, rests-most (coming (a .args .periods .now) (a .args .budgets .now) (a .args .size)) (l .at), l .inv .0 .so-far, c .before .before .before .before .turn .ensures, a .pre .1 .short)
+
+loop-less : tie.Need-loop-less Inv-loop μ-loop
+loop-less c = omega (arith, c .before .before .before .before .before .turn .ensures)
+
+loop-again : tie.Need-loop-again Inv-loop μ-loop
+loop-again c =
+    let a = c .before .before .before .before .before .before .before .before .before .before in
+    let l = c .before .before .before .before .before .before .before .before .loop in
+    let x = c .before .before .before .before .before .turn .ensures in
+    (waited (a .pre .1) (l .inv .0) (turned-gap (a .pre .0) x) (c .before .before .if1 .taken) (omega (arith, c .if2 .left)), x .next-whole, turned-next (a .pre .0) x)
+
+loop-less-2 : tie.Need-loop-less-2 Inv-loop μ-loop
+loop-less-2 c = omega (arith, c .before .before .before .before .turn .ensures)
+
+loop-again-2 : tie.Need-loop-again-2 Inv-loop μ-loop
+loop-again-2 c =
+    let a = c .before .before .before .before .before .before .before .before .before in
+    let l = c .before .before .before .before .before .before .before .loop in
+    let x = c .before .before .before .before .turn .ensures in
+    let ends : l .backlog + c .before .before .before .before .turn .result .work ≤ c .before .before .before .before .turn .result .next - l .at = c .before .if1 .left in (
+      ⊎-elim
+          (λ w. rw (w .1, w .2, w .3) (job-done (a .pre .1) (l .inv .0) (turned-gap (a .pre .0) x) ends (w .0 .taken)))
+          (λ w. rw (w .1, w .2, w .3) (rested-on (a .pre .1) (l .inv .0) (turned-gap (a .pre .0) x) ends (w .0 .left)))
+          (c .if3 .came),
+      x .next-whole,
+      turned-next (a .pre .0) x,
+    )
+
+same-length-2 : tie.Need-same-length-2 Inv-loop μ-loop
+same-length-2 c = c .before .loop .inv .0 .whole
+
+returns-2 : tie.Need-returns-2 Inv-loop μ-loop
+returns-2 c = finished (c .before .before .before .pre .1) (c .before .loop .inv .0) (omega arith)
+
+pub walk-spec : {M : Type 1} → statement M
+walk-spec =
+    tie.close
+    (tie.spec
+    Inv-loop
+    μ-loop
+    loop-holds
+    turn-requires
+    add-work
+    sub-gap
+    add-if2
+    same-length
+    returns
+    sub-backlog
+    add-row
+    sub-row
+    mul-row
+    slice-write-row
+    add-k
+    add-release
+    add-rests
+    loop-less
+    loop-again
+    loop-less-2
+    loop-again-2
+    same-length-2
+    returns-2)

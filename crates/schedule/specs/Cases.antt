@@ -1,0 +1,156 @@
+-- The answer of `responses`, case by case: what each is given for, and what is known where it is given.
+use mathlib.Core.Path.{_≡_, sym, ap, _∙_, subst}
+use mathlib.Core.List.{[], _∷_}
+use mathlib.Core.Bool.{Bool, true, false}
+use Prim.Native.Nat.{ℕ, _≤_, _<_}
+use native.Mathlib.Omega.{arith}
+use lib.Dec.{ltb, leb}
+use lib.ListN.{length, getD, length-take}
+use lib.Seq.{getD-take}
+use borrow.Author.Tests.{ltb-false, lt-ltb, le-ltb}
+use Rattle.theory.specs.Model.{none, Proper, idle, busy}
+use Rattle.theory.specs.Responses.{hyperperiod, allJobs, idleTicks}
+use Rattle.sheet.specs.declared.Sheet.{Sheet}
+use Rattle.sheet.specs.declared.Refusal.{Refusal}
+use Rattle.sheet.specs.declared.Refusal.the-variants.{Number, Late}
+use Rattle.sheet.specs.Answers.{Answer, given, refused, Judgement, fine, when, also, first}
+use Rattle.sheet.specs.Calls.{fieldsOf, judgeOf}
+use Rattle.sheet.specs.Fields.{outside, among, judged}
+use Rattle.sheet.specs.EachLaws.{All, each-all}
+use Rattle.sheet.specs.Told.{refusal}
+use Rattle.sheet.specs.Sound.{Sound, when-fine, also-given}
+use Rattle.schedule.specs.declared.answer.Size.{Size}
+use Rattle.schedule.specs.Answer.{mostTicks, mostJobs, tasksOf, lateGreatest, sizesOf, responsesOf}
+
+-- The numbers of refusal
+
+-- A number of refusal is at most m.
+abbrev pub NumberMost : {A : Type 0} → ℕ → Answer A → Type 0
+NumberMost m (given a) = Unit {0}
+NumberMost m (refused number values) = number ≤ m
+
+module _ (m : ℕ) where
+  when-most : (b : Bool) (number : ℕ) → number ≤ m → NumberMost m (when b number)
+  when-most true number l = l
+  when-most false number l = tt
+
+  also-most : {A : Type 0} (j : Judgement) (a : Answer A) → NumberMost m j → NumberMost m a → NumberMost m (also j a)
+  also-most (given u) a p q = q
+  also-most (refused number values) a p q = p
+
+  first-most : (s : Sheet) (fs : _) → All (λ f. NumberMost m (judged s f)) fs → NumberMost m (first (judged s) fs)
+  unfolding first
+  first-most s [] a = tt
+  first-most s (f ∷ fs) a = also-most (judged s f) (first (judged s) fs) (a .0) (first-most s fs (a .1))
+
+  -- "A sheet handed over in memory is judged for 2 to 8".
+  pub judge-most : (s : Sheet) → 8 ≤ m → NumberMost m (judgeOf s)
+  unfolding judgeOf
+  judge-most s l = first-most s (fieldsOf s) (each-all (λ f. NumberMost m (judged s f)) (record {
+    of-count = when-most (outside 1 16 (s .count)) 2 (omega arith);
+    of-period = λ i k. when-most (outside 1 100000 (T i)) 3 (omega arith);
+    of-budget = λ i k. when-most (outside 1 (T i) (getD (s .tasks) i none .budget)) 4 (omega arith);
+    of-rank = λ i k. when-most (among rank i (rank i)) 5 (omega arith);
+    of-length = when-most (outside 1 (s .count) (s .length)) 6 (omega arith);
+    of-entry = λ i k. also-most (when (leb (s .count) (entry i)) 7) (when (among entry i (entry i)) 8) (when-most (leb (s .count) (entry i)) 7 (omega arith)) (when-most (among entry i (entry i)) 8 (omega arith));
+  }))
+    where
+      T : ℕ → ℕ
+      T i = getD (s .tasks) i none .period
+
+      rank : ℕ → ℕ
+      rank i = getD (s .tasks) i none .rank
+
+      entry : ℕ → ℕ
+      entry i = getD (s .chain) i 0
+
+pub sizes-most : (s : Sheet) → NumberMost 11 (sizesOf s)
+unfolding sizesOf
+sizes-most s =
+    also-most 11 (judgeOf s) _ (judge-most 11 s (omega arith))
+    (also-most 11 (when long 10) _ (when-most 11 long 10 (omega arith)) (also-most 11 (when many 11) _ (when-most 11 many 11 (omega arith)) tt))
+  where
+    long : Bool
+    long = ltb mostTicks (hyperperiod (tasksOf s))
+
+    many : Bool
+    many = ltb mostJobs (allJobs (tasksOf s))
+
+-- H and J
+
+module _ (s : Sheet) where
+  pub sizes-refused : (r : Refusal) → judgeOf s ≡ refusal r → sizesOf s ≡ refusal r
+  unfolding sizesOf
+  sizes-refused (Number n) e = rw e
+  sizes-refused (Late i) e = rw e
+
+  pub sizes-over : judgeOf s ≡ fine → mostTicks < hyperperiod (tasksOf s) → sizesOf s ≡ refused 10 []
+  unfolding sizesOf
+  sizes-over e h = rw (e, lt-ltb mostTicks (hyperperiod (tasksOf s)) h)
+
+  pub sizes-many : judgeOf s ≡ fine → hyperperiod (tasksOf s) ≤ mostTicks → mostJobs < allJobs (tasksOf s) → sizesOf s ≡ refused 11 []
+  unfolding sizesOf
+  sizes-many e h j = rw (e, le-ltb mostTicks (hyperperiod (tasksOf s)) h, lt-ltb mostJobs (allJobs (tasksOf s)) j)
+
+  pub sizes-fit : judgeOf s ≡ fine → hyperperiod (tasksOf s) ≤ mostTicks → allJobs (tasksOf s) ≤ mostJobs
+      → sizesOf s ≡ given (record { hyperperiod = hyperperiod (tasksOf s); jobs = allJobs (tasksOf s) })
+  unfolding sizesOf
+  sizes-fit e h j = rw (e, le-ltb mostTicks (hyperperiod (tasksOf s)) h, le-ltb mostJobs (allJobs (tasksOf s)) j)
+
+-- A sheet whose H and J are within their limits.
+pub record Sized (s : Sheet) (size : Size) : Type 0 where
+  pub judged-fine : judgeOf s ≡ fine
+  pub hyperperiod-is : size .hyperperiod ≡ hyperperiod (tasksOf s)
+  pub hyperperiod-most : hyperperiod (tasksOf s) ≤ mostTicks
+  pub jobs-are : size .jobs ≡ allJobs (tasksOf s)
+  pub jobs-most : allJobs (tasksOf s) ≤ mostJobs
+
+pub sizes-given : (s : Sheet) {size : Size} → sizesOf s ≡ given size → Sized s size
+unfolding sizesOf
+sizes-given s e =
+    let x = also-given (judgeOf s) _ e in
+    let y = also-given (when (ltb mostTicks (hyperperiod (tasksOf s))) 10) _ (x .1) in
+    let z = also-given (when (ltb mostJobs (allJobs (tasksOf s))) 11) _ (y .1) in
+    record {
+      judged-fine = x .0;
+      hyperperiod-is = cc (z .1);
+      hyperperiod-most = ltb-false mostTicks (hyperperiod (tasksOf s)) (when-fine _ 10 (y .0));
+      jobs-are = cc (z .1);
+      jobs-most = ltb-false mostJobs (allJobs (tasksOf s)) (when-fine _ 11 (z .0));
+    }
+
+-- The tasks of a sheet that is judged fine are proper.
+pub sound-proper : {s : Sheet} → Sound s → Proper (tasksOf s)
+unfolding tasksOf
+sound-proper {s} ok = record {
+  period-positive = λ i l. subst (λ x. 0 < x .period) (sym (at i l)) (ok .period-least i (placed i l));
+  budget-positive = λ i l. subst (λ x. 0 < x .budget) (sym (at i l)) (ok .budget-least i (placed i l));
+  ranks-differ = λ i j l m e. ok .ranks-differ i j (placed i l) (placed j m) (ap (λ x. x .rank) (sym (at i l)) ∙ e ∙ ap (λ x. x .rank) (at j m));
+}
+  where
+    placed : (i : ℕ) → i < length (tasksOf s) → i < s .count
+    placed i l = omega (arith, length-take (s .count) (s .tasks))
+
+    at : (i : ℕ) → i < length (tasksOf s) → getD (tasksOf s) i none ≡ getD (s .tasks) i none
+    at i l = getD-take (s .count) (s .tasks) i none (placed i l)
+
+-- The whole answer
+
+pub responses-refused : (s : Sheet) (room : ℕ) (r : Refusal) → sizesOf s ≡ refusal r → responsesOf s room ≡ refusal r
+unfolding responsesOf
+responses-refused s room (Number n) e = rw e
+responses-refused s room (Late i) e = rw e
+
+module _ (s : Sheet) (room : ℕ) {size : Size} (fits : sizesOf s ≡ given size) where
+  pub responses-small : room < size .jobs → responsesOf s room ≡ refused 14 []
+  unfolding responsesOf
+  responses-small l = rw (fits, lt-ltb room (size .jobs) l)
+
+  pub responses-late : {i : ℕ} → size .jobs ≤ room → lateGreatest (tasksOf s) (length (tasksOf s)) ≡ busy i → responsesOf s room ≡ refused 15 (i ∷ [])
+  unfolding responsesOf
+  responses-late l e = rw (fits, le-ltb room (size .jobs) l, e)
+
+  pub responses-full : size .jobs ≤ room → lateGreatest (tasksOf s) (length (tasksOf s)) ≡ idle
+      → responsesOf s room ≡ given (record { hyperperiod = size .hyperperiod; jobs = size .jobs; idle = idleTicks (tasksOf s) })
+  unfolding responsesOf
+  responses-full l e = rw (fits, le-ltb room (size .jobs) l, e)

@@ -1,0 +1,105 @@
+-- Refusal 15, "exactly when": the test of a late task tells whether one of its jobs released before H is late, and `lateGreatest` the greatest-ranked late task.
+use mathlib.Core.Path.{_≡_, refl, sym, ap, _∙_, subst}
+use mathlib.Core.List.{List}
+use mathlib.Core.Bool.{Bool, true, false, cond, false≢true}
+use Prim.Native.Nat.{ℕ, zero, suc, _≤_, _<_}
+use native.Mathlib.Nat.{le-refl}
+use native.Mathlib.Omega.{arith}
+use lib.Dec.{ltb}
+use lib.ListN.{length}
+use borrow.Author.Tests.{ltb-true, ltb-false, lt-ltb}
+use Rattle.theory.specs.declared.Task.{Task}
+use Rattle.theory.specs.Ranges.{least, least-passes, least-first, below-suc}
+use Rattle.theory.specs.Model.{release, rank, Proper, need, Slot, idle, busy, done}
+use Rattle.theory.specs.Simulate.{outranking, greatest}
+use Rattle.theory.specs.Responses.{full, fullBudget, jobs, Late, LateTask, Accepted}
+use Rattle.theory.specs.Hyperperiod.{jobs-released, released-jobs}
+use Rattle.schedule.specs.Answer.{late, lateTask, lateGreatest}
+
+-- One task
+
+pub job-late : (ts : List Task) (i k : ℕ) → k < jobs ts i → Late ts i k → lateTask ts i ≡ true
+unfolding lateTask
+job-late ts i k l x = lt-ltb (least (jobs ts i) (late ts i)) (jobs ts i) (omega (arith, least-first (jobs ts i) (late ts i) k (lt-ltb (done (fullBudget ts) i (release ts i (suc k))) (need (full ts) i (suc k)) x)))
+
+pub late-job : (ts : List Task) (i : ℕ) → lateTask ts i ≡ true → (k : ℕ) × (k < jobs ts i) × Late ts i k
+unfolding lateTask
+late-job ts i e = (k, early, ltb-true (done (fullBudget ts) i (release ts i (suc k))) (need (full ts) i (suc k)) (least-passes (jobs ts i) (late ts i) early))
+  where
+    k : ℕ
+    k = least (jobs ts i) (late ts i)
+
+    early : k < jobs ts i
+    early = ltb-true k (jobs ts i) e
+
+module _ {ts : List Task} (good : Proper ts) (i : ℕ) (known : i < length ts) where
+  pub task-late : LateTask ts i → lateTask ts i ≡ true
+  task-late x = job-late ts i (x .0) (released-jobs good i known (x .0) (x .1)) (x .2)
+
+  pub late-task : lateTask ts i ≡ true → LateTask ts i
+  late-task e = let x = late-job ts i e in (x .0, jobs-released good i known (x .0) (x .1), x .2)
+
+-- All tasks
+
+-- The slot holds the late task of greatest rank among the first n, or is idle where none is late.
+Marks : List Task → ℕ → Slot → Type 0
+Marks ts n idle = (j : ℕ) → j < n → lateTask ts j ≡ false
+Marks ts n (busy i) = (i < n) × (lateTask ts i ≡ true) × ((j : ℕ) → j < n → lateTask ts j ≡ true → rank ts j ≤ rank ts i)
+
+lateGreatest-marks : (ts : List Task) (n : ℕ) → Marks ts n (lateGreatest ts n)
+unfolding greatest Marks
+lateGreatest-marks ts zero = λ j l. absurd (omega arith)
+lateGreatest-marks ts (suc n) = go (lateTask ts n) refl (lateGreatest ts n) (lateGreatest-marks ts n)
+  where
+    lower : ℕ → ℕ → Type 0
+    lower i j = lateTask ts j ≡ true → rank ts j ≤ rank ts i
+
+    go : (b : Bool) → lateTask ts n ≡ b → (x : Slot) → Marks ts n x → Marks ts (suc n) (cond b (outranking (rank ts) n x) x)
+    go false e idle h = below-suc (λ j. lateTask ts j ≡ false) h e
+    go false e (busy i) h = (omega (arith, h .0), h .1, below-suc (lower i) (h .2) (λ q. absurd (false≢true (sym e ∙ q))))
+    go true e idle h = (omega arith, e, below-suc (lower n) (λ j l q. absurd (false≢true (sym (h j l) ∙ q))) (λ q. le-refl _))
+    go true e (busy i) h = pick (ltb (rank ts i) (rank ts n)) refl
+      where
+        pick : (b : Bool) → ltb (rank ts i) (rank ts n) ≡ b → Marks ts (suc n) (cond b (busy n) (busy i))
+        pick true q = (omega arith, e, below-suc (lower n) (λ j l z. omega (arith, h .2 j l z, ltb-true (rank ts i) (rank ts n) q)) (λ z. le-refl _))
+        pick false q = (omega (arith, h .0), h .1, below-suc (lower i) (h .2) (λ z. ltb-false (rank ts i) (rank ts n) q))
+
+-- Task i is late, and no late task outranks it.
+pub record GreatestLate (ts : List Task) (i : ℕ) : Type 0 where
+  pub known : i < length ts
+  pub is-late : LateTask ts i
+  pub greatest-rank : (j : ℕ) → j < length ts → LateTask ts j → rank ts j ≤ rank ts i
+
+module _ {ts : List Task} (good : Proper ts) where
+  -- `lateGreatest` is idle exactly when no task is late,
+  pub idle-accepted : lateGreatest ts (length ts) ≡ idle → Accepted ts
+  unfolding Marks
+  idle-accepted e = record {
+    proper = good;
+    none-late = λ i l x. false≢true (sym (subst (Marks ts (length ts)) e (lateGreatest-marks ts (length ts)) i l) ∙ task-late good i l x);
+  }
+
+  -- and busy with i exactly when i is the greatest-ranked late task.
+  pub busy-greatest : {i : ℕ} → lateGreatest ts (length ts) ≡ busy i → GreatestLate ts i
+  unfolding Marks
+  busy-greatest {i} e = let h = subst (Marks ts (length ts)) e (lateGreatest-marks ts (length ts)) in record {
+    known = h .0;
+    is-late = late-task good i (h .0) (h .1);
+    greatest-rank = λ j l x. h .2 j l (task-late good j l x);
+  }
+
+  pub accepted-idle : Accepted ts → lateGreatest ts (length ts) ≡ idle
+  accepted-idle ok = go (lateGreatest ts (length ts)) refl
+    where
+      go : (x : Slot) → lateGreatest ts (length ts) ≡ x → x ≡ idle
+      go idle e = refl
+      go (busy i) e = let g = busy-greatest e in absurd (ok .none-late i (g .known) (g .is-late))
+
+  pub greatest-busy : {i : ℕ} → GreatestLate ts i → lateGreatest ts (length ts) ≡ busy i
+  greatest-busy {i} g = go (lateGreatest ts (length ts)) refl
+    where
+      go : (x : Slot) → lateGreatest ts (length ts) ≡ x → x ≡ busy i
+      go idle e = absurd (idle-accepted e .none-late i (g .known) (g .is-late))
+      go (busy j) e =
+          let x = busy-greatest e in
+          ap busy (good .ranks-differ j i (x .known) (g .known) (omega (arith, x .greatest-rank i (g .known) (g .is-late), g .greatest-rank j (x .known) (x .is-late))))

@@ -1,0 +1,171 @@
+-- What the promise of `responses` comes to: when each answer is given, the entries of the table, and that the ticks add up.
+use mathlib.Core.Path.{_≡_, refl, sym, ap, ap₂, _∙_, subst}
+use mathlib.Core.List.{List, [], _∷_, _++_}
+use mathlib.Core.Bool.{Bool, true, false}
+use Prim.Native.Nat.{ℕ, zero, suc, _+_, _*_, _/_, _≤_, _<_}
+use native.Mathlib.Omega.{arith}
+use lib.Dec.{ltb}
+use native.Mathlib.Decide.{ℕ-discrete}
+use lib.ListN.{length, getD, length-append, List·getD-append}
+use lib.Seq.{getD-append-add}
+use borrow.Author.Tests.{ltb-false}
+use Rattle.theory.specs.declared.Task.{Task}
+use Rattle.theory.specs.Model.{none, Slot, idle, busy}
+use Rattle.theory.specs.Responses.{hyperperiod, allJobs, idleTicks, Accepted}
+use Rattle.sheet.specs.declared.Sheet.{Sheet}
+use Rattle.sheet.specs.declared.Refusal.{Refusal}
+use Rattle.sheet.specs.Answers.{Answer, given, refused, fine, when, after, also}
+use Rattle.sheet.specs.Calls.{judgeOf}
+use Rattle.sheet.specs.Sound.{judged-sound, when-fine, also-given}
+use Rattle.schedule.specs.declared.answer.Totals.{Totals}
+use Rattle.schedule.specs.declared.answer.Size.{Size}
+use Rattle.schedule.specs.Answer.{mostTicks, mostJobs, tasksOf, lateGreatest, lateness, sizesOf, responsesOf}
+use Rattle.schedule.specs.Lateness.{GreatestLate, idle-accepted, busy-greatest, accepted-idle, greatest-busy}
+use Rattle.bits.specs.Lists.{length-listOf, getD-listOf}
+use Rattle.theory.specs.Ranges.{sum, sum-grows}
+use Rattle.theory.specs.Model.{period, budget, done}
+use Rattle.theory.specs.Responses.{fullBudget, response, jobs}
+use Rattle.theory.specs.Idle.{runs-exactly, idle-adds-up}
+use Rattle.schedule.specs.Answer.{row, rows, tableAfter}
+use Rattle.schedule.specs.Cases.{NumberMost, sizes-most, sizes-fit, Sized, sizes-given, sound-proper, responses-late, responses-full}
+
+-- When each answer is given
+
+-- The rows stand in the table: J entries are enough, no task is late, and the totals are those of the schedule.
+pub record GivenWhen (s : Sheet) (room : ℕ) (totals : Totals) : Type 0 where
+  pub judged-fine : judgeOf s ≡ fine
+  pub accepted : Accepted (tasksOf s)
+  pub hyperperiod-is : totals .hyperperiod ≡ hyperperiod (tasksOf s)
+  pub hyperperiod-most : hyperperiod (tasksOf s) ≤ mostTicks
+  pub jobs-are : totals .jobs ≡ allJobs (tasksOf s)
+  pub jobs-most : allJobs (tasksOf s) ≤ mostJobs
+  pub jobs-fit : allJobs (tasksOf s) ≤ room
+  pub idle-is : totals .idle ≡ idleTicks (tasksOf s)
+
+-- A task is late: everything before that judgement is in order, and i is the greatest-ranked late task.
+pub record LateWhen (s : Sheet) (room i : ℕ) : Type 0 where
+  pub judged-fine : judgeOf s ≡ fine
+  pub hyperperiod-most : hyperperiod (tasksOf s) ≤ mostTicks
+  pub jobs-most : allJobs (tasksOf s) ≤ mostJobs
+  pub jobs-fit : allJobs (tasksOf s) ≤ room
+  pub greatest-late : GreatestLate (tasksOf s) i
+
+never : {A B : Type 0} {number : ℕ} {values : List ℕ} {a : A} → _≡_ {A = Answer A} (refused number values) (given a) → B
+never e = let z : _≡_ {A = ℕ} 0 1 = cc in absurd (omega arith)
+
+module _ (s : Sheet) (room : ℕ) where
+  abbrev ts : List Task
+  ts = tasksOf s
+
+  abbrev totals : Size → Totals
+  totals size = record { hyperperiod = size .hyperperiod; jobs = size .jobs; idle = idleTicks ts }
+
+  -- What is judged after the sizes.
+  abbrev rest : Size → Answer Totals
+  rest size = also (when (ltb room (size .jobs)) 14) (also (lateness (lateGreatest ts (length ts))) (given (totals size)))
+
+  pub responses-given : {totals : Totals} → responsesOf s room ≡ given totals → GivenWhen s room totals
+  unfolding responsesOf
+  responses-given {totals} = go (sizesOf s) refl
+    where
+      go : (x : Answer Size) → sizesOf s ≡ x → after x rest ≡ given totals → GivenWhen s room totals
+      go (refused number values) q e = never e
+      go (given size) q e =
+          let z = sizes-given s q in
+          let x = also-given (when (ltb room (size .jobs)) 14) _ e in
+          let y = also-given (lateness (lateGreatest ts (length ts))) _ (x .1) in
+          record {
+            judged-fine = z .judged-fine;
+            accepted = idle-accepted (sound-proper (judged-sound s (z .judged-fine))) (none (lateGreatest ts (length ts)) (y .0));
+            hyperperiod-is = cc (y .1, z .hyperperiod-is);
+            hyperperiod-most = z .hyperperiod-most;
+            jobs-are = cc (y .1, z .jobs-are);
+            jobs-most = z .jobs-most;
+            jobs-fit = omega (arith, z .jobs-are, ltb-false room (size .jobs) (when-fine _ 14 (x .0)));
+            idle-is = cc (y .1);
+          }
+        where
+          none : (x : Slot) → lateness x ≡ fine → x ≡ idle
+          none idle h = refl
+          none (busy i) h = never h
+
+  pub given-responses : {totals : Totals} → GivenWhen s room totals → responsesOf s room ≡ given totals
+  given-responses {totals} f =
+      responses-full s room (sizes-fit s (f .judged-fine) (f .hyperperiod-most) (f .jobs-most)) (f .jobs-fit) (accepted-idle (f .accepted .proper) (f .accepted))
+      ∙ ap (λ x. given (record { hyperperiod = x; jobs = allJobs ts; idle = idleTicks ts })) (sym (f .hyperperiod-is))
+      ∙ ap₂ (λ x y. given (record { hyperperiod = totals .hyperperiod; jobs = x; idle = y })) (sym (f .jobs-are)) (sym (f .idle-is))
+
+  -- Refusal 15, exactly when.
+  pub responses-15 : {i : ℕ} → responsesOf s room ≡ refused 15 (i ∷ []) → LateWhen s room i
+  unfolding responsesOf
+  responses-15 {i} = go (sizesOf s) refl
+    where
+      go : (x : Answer Size) → sizesOf s ≡ x → after x rest ≡ refused 15 (i ∷ []) → LateWhen s room i
+      go (refused number values) q e = absurd (omega (arith, subst (NumberMost 11) (q ∙ ap (λ n. refused n values) (same e)) (sizes-most s)))
+        where
+          same : _≡_ {A = Answer Totals} (refused number values) (refused 15 (i ∷ [])) → number ≡ 15
+          same h = cc
+      go (given size) q e = pick (ltb room (size .jobs)) refl (lateGreatest ts (length ts)) refl e
+        where
+          z : Sized s size
+          z = sizes-given s q
+
+          pick : (b : Bool) → ltb room (size .jobs) ≡ b → (x : Slot) → lateGreatest ts (length ts) ≡ x
+              → also (when b 14) (also (lateness x) (given (totals size))) ≡ refused 15 (i ∷ []) → LateWhen s room i
+          pick true l x p h = let y : _≡_ {A = ℕ} 14 15 = cc in absurd (omega arith)
+          pick false l idle p h = never (sym h)
+          pick false l (busy j) p h = record {
+            judged-fine = z .judged-fine;
+            hyperperiod-most = z .hyperperiod-most;
+            jobs-most = z .jobs-most;
+            jobs-fit = omega (arith, z .jobs-are, ltb-false room (size .jobs) l);
+            greatest-late = subst (GreatestLate ts) same (busy-greatest (sound-proper (judged-sound s (z .judged-fine))) p);
+          }
+            where
+              same : j ≡ i
+              same = cc
+
+  pub late-responses : {i : ℕ} → LateWhen s room i → responsesOf s room ≡ refused 15 (i ∷ [])
+  late-responses f =
+      responses-late s room (sizes-fit s (f .judged-fine) (f .hyperperiod-most) (f .jobs-most)) (f .jobs-fit)
+      (greatest-busy (sound-proper (judged-sound s (f .judged-fine))) (f .greatest-late))
+
+-- The entries of the table
+
+module _ (ts : List Task) where
+  pub rows-length : (n : ℕ) → length (rows ts n) ≡ sum n (jobs ts)
+  unfolding rows sum
+  rows-length zero = refl
+  rows-length (suc n) = length-append (rows ts n) (row ts n) ∙ ap₂ _+_ (rows-length n) (length-listOf (jobs ts n) (response ts n))
+
+  -- Job k of task i has its response at place k of the task's row, which stands after the rows before it.
+  pub rows-entry : (n i k : ℕ) → i < n → k < jobs ts i → getD (rows ts n) (sum i (jobs ts) + k) 0 ≡ response ts i k
+  unfolding rows sum
+  rows-entry zero i k l m = absurd (omega arith)
+  rows-entry (suc n) i k l m = go (ℕ-discrete i n) (λ q. rows-entry n i k q m)
+    where
+      go : Dec (i ≡ n) → (i < n → getD (rows ts n) (sum i (jobs ts) + k) 0 ≡ response ts i k) → getD (rows ts n ++ row ts n) (sum i (jobs ts) + k) 0 ≡ response ts i k
+      go (yes e) rec =
+          ap (λ x. getD (rows ts n ++ row ts n) (x + k) 0) (ap (λ x. sum x (jobs ts)) e ∙ sym (rows-length n))
+          ∙ getD-append-add (rows ts n) (row ts n) k 0 ∙ getD-listOf (jobs ts n) (response ts n) k 0 (subst (λ x. k < jobs ts x) e m) ∙ ap (λ x. response ts x k) (sym e)
+      go (no e) rec = List·getD-append (rows ts n) (row ts n) 0 (sum i (jobs ts) + k) (omega (arith, rows-length n, sum-grows (jobs ts) (suc i) n (omega arith))) ∙ rec (omega arith)
+
+-- Where the answer is given, the table holds it there.
+pub table-entry : (s : Sheet) (old : List ℕ) {totals : Totals} → responsesOf s (length old) ≡ given totals → (i k : ℕ) → i < length (tasksOf s) → k < jobs (tasksOf s) i
+    → getD (tableAfter (responsesOf s (length old)) (tasksOf s) old) (sum i (jobs (tasksOf s)) + k) 0 ≡ response (tasksOf s) i k
+unfolding sum
+table-entry s old e i k l m =
+    ap (λ x. getD (tableAfter x ts old) (sum i (jobs ts) + k) 0) e
+    ∙ List·getD-append (rows ts (length ts)) _ 0 (sum i (jobs ts) + k) (omega (arith, rows-length ts (length ts), sum-grows (jobs ts) (suc i) (length ts) l))
+    ∙ rows-entry ts (length ts) i k l m
+  where
+    ts : List Task
+    ts = tasksOf s
+
+-- The ticks add up
+
+-- "On an accepted sheet each task runs exactly C·H/T of those ticks, and these and the idle ticks add up to H."
+pub answer-adds-up : (s : Sheet) (room : ℕ) {totals : Totals} → responsesOf s room ≡ given totals
+    → ((i : ℕ) → i < length (tasksOf s) → done (fullBudget (tasksOf s)) i (totals .hyperperiod) ≡ budget (tasksOf s) i * (totals .hyperperiod / period (tasksOf s) i))
+    × (sum (length (tasksOf s)) (λ i. budget (tasksOf s) i * (totals .hyperperiod / period (tasksOf s) i)) + totals .idle ≡ totals .hyperperiod)
+answer-adds-up s room e = let f = responses-given s room e in rw (f .hyperperiod-is, f .idle-is) (runs-exactly (f .accepted), idle-adds-up (f .accepted))

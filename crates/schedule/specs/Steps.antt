@@ -1,0 +1,159 @@
+-- What the functions under the call promise each other.
+use mathlib.Core.Path.{_≡_}
+use mathlib.Core.List.{List}
+use mathlib.Core.Bool.{true, false, cond}
+use Prim.Native.Nat.{ℕ, suc, _+_, _-_, _*_, _%_, _≤_, _<_}
+use lib.Dec.{eqb}
+use lib.ListN.{length, getD, take, drop}
+use Rattle.arith.specs.Whole.{up}
+use Rattle.theory.specs.declared.Task.{Task}
+use Rattle.theory.specs.Ranges.{sum}
+use Rattle.theory.specs.Model.{none, period, budget, rank, idle, busy}
+use Rattle.theory.specs.Responses.{full, response, hyperperiod, jobs, allJobs}
+use Rattle.theory.specs.Level.{level}
+use Rattle.theory.specs.Backlog.{load, drain}
+use Rattle.theory.specs.Finish.{FirstZero}
+use Rattle.sheet.specs.declared.Sheet.{Sheet}
+use Rattle.sheet.specs.declared.Refusal.{Refusal}
+use Rattle.sheet.specs.declared.Refusal.the-variants.{Number, Late}
+use Rattle.sheet.specs.Sound.{Sound}
+use Rattle.schedule.specs.declared.answer.Sizes.{Sizes}
+use Rattle.schedule.specs.declared.answer.Sizes.the-variants.{Of, No}
+use Rattle.schedule.specs.declared.answer.Turn.{Turn}
+use Rattle.schedule.specs.declared.answer.Row.{Row}
+use Rattle.schedule.specs.declared.answer.Row.the-variants.{Rests, Late as LateRow}
+use Rattle.schedule.specs.declared.answer.Found.{Found}
+use Rattle.schedule.specs.declared.answer.Found.the-variants.{Lowest, Late as LateFound}
+use Rattle.schedule.specs.Answer.{mostTicks, tasksOf, lateTask, lateGreatest, row, rows}
+
+-- A sheet that is judged fine, in its sixteen places.
+pub record Taken (s : Sheet) : Type 0 where
+  pub sound : Sound s
+  pub whole : length (s .tasks) ≡ 16
+
+-- h is the hyperperiod, within document 01's limit.
+pub record Period (s : Sheet) (h : ℕ) : Type 0 where
+  pub is-hyperperiod : h ≡ hyperperiod (tasksOf s)
+  pub within-limit : h ≤ mostTicks
+
+-- The refusal that an answer holds.
+abbrev pub refusalOf : Sizes → Refusal
+refusalOf (Of size) = Number 0
+refusalOf (No r) = r
+
+abbrev pub lateOf : Found → Refusal
+lateOf (Lowest low rests) = Number 0
+lateOf (LateFound i) = Late i
+
+-- ---- work that comes in
+
+-- What a task of period T and budget C brings at tick t.
+abbrev pub brings : ℕ → ℕ → ℕ → ℕ
+brings t T C = cond (eqb (t % T) 0) C 0
+
+-- Tasks in so many places, by period and budget.
+pub record Places (periods budgets : List ℕ) (size : ℕ) : Type 0 where
+  pub few : size ≤ 16
+  pub periods-whole : length periods ≡ 16
+  pub budgets-whole : length budgets ≡ 16
+  pub period-positive : (p : ℕ) → p < size → 0 < getD periods p 0
+  pub period-most : (p : ℕ) → p < size → getD periods p 0 ≤ 100000
+  pub budget-most : (p : ℕ) → p < size → getD budgets p 0 ≤ 100000
+
+-- What they bring at tick t.
+unfoldable pub coming : List ℕ → List ℕ → ℕ → ℕ → ℕ
+coming periods budgets size t = sum size (λ p. brings t (getD periods p 0) (getD budgets p 0))
+
+-- The places hold the level of task i, in any order: a sum over them is the sum over the level.
+pub record Level (ts : List Task) (i : ℕ) (periods budgets : List ℕ) (size : ℕ) : Type 0 where
+  pub places : Places periods budgets size
+  pub sums : (f : ℕ → ℕ → ℕ) → sum size (λ p. f (getD periods p 0) (getD budgets p 0)) ≡ level ts i (λ j. f (period ts j) (budget ts j))
+
+-- Each place's first release at or after tick t.
+abbrev pub NextAt : List ℕ → List ℕ → ℕ → ℕ → Type 0
+NextAt periods next size t = (p : ℕ) → p < size → getD next p 0 ≡ up (getD periods p 0) t
+
+-- The places before the releases of tick t, which is before h.
+pub record Ready (periods budgets next : List ℕ) (size t h : ℕ) : Type 0 where
+  pub places : Places periods budgets size
+  pub next-whole : length next ≡ 16
+  pub next-at : NextAt periods next size t
+  pub early : t < h
+  pub short : h ≤ mostTicks
+
+-- And after them: the work they bring, and the next tick with releases, or h.
+pub record Turned (periods budgets next : List ℕ) (size t h : ℕ) (turn : Turn) : Type 0 where
+  pub next-whole : length next ≡ 16
+  pub next-after : NextAt periods next size (suc t)
+  pub work-all : turn .work ≡ coming periods budgets size t
+  pub later : t < turn .next
+  pub within : turn .next ≤ h
+  pub before-next : (p : ℕ) → p < size → turn .next ≤ getD next p 0
+
+-- ---- a row, for a x of work that comes in at tick x and jobs released at the multiples of T
+
+-- The ticks before t in which there is no work left and none comes in.
+unfoldable pub restsTo : (ℕ → ℕ) → ℕ → ℕ
+restsTo a t = sum t (λ x. 1 - (drain a x + a x))
+
+-- Job k is done at the first tick after its release where nothing is left, and that is f ticks after it.
+pub record Cleared (a : ℕ → ℕ) (T k f : ℕ) : Type 0 where
+  pub soon : f ≤ T
+  pub clears : FirstZero (drain a) (k * T) (k * T + f)
+
+-- It is not, up to the next release.
+abbrev pub Blocked : (ℕ → ℕ) → ℕ → ℕ → Type 0
+Blocked a T k = (z : ℕ) → k * T < z → z ≤ suc k * T → 0 < drain a z
+
+-- The walk of a row: every release of its jobs brings work, the last job is due at h, and the numbers fit.
+pub record Walk (a : ℕ → ℕ) (T h n : ℕ) : Type 0 where
+  pub period-positive : 0 < T
+  pub period-most : T ≤ 100000
+  pub ends : n * T ≡ h
+  pub short : h ≤ mostTicks
+  pub own : (k : ℕ) → 0 < a (k * T)
+  pub bounded : (t : ℕ) → t ≤ h → drain a t + a t ≤ 20000000
+
+abbrev pub Walked : (ℕ → ℕ) → ℕ → ℕ → List ℕ → Row → Type 0
+Walked a T h xs (Rests rests) = ((k : ℕ) → k < length xs → Cleared a T k (getD xs k 0)) × (rests ≡ restsTo a h)
+Walked a T h xs LateRow = (k : ℕ) × (k < length xs) × Blocked a T k
+
+-- ---- the rows of a sheet
+
+-- Whether task i is late; where it is not, the ticks in which its level rests.
+abbrev pub Noted : List Task → ℕ → Row → Type 0
+Noted ts i (Rests rests) = (lateTask ts i ≡ false) × (rests ≡ restsTo (load ts (full ts) i) (hyperperiod ts))
+Noted ts i LateRow = lateTask ts i ≡ true
+
+pub record RowFilled (ts : List Task) (i : ℕ) (xs : List ℕ) (r : Row) : Type 0 where
+  pub noted : Noted ts i r
+  pub filled : lateTask ts i ≡ false → xs ≡ row ts i
+
+-- What the rows of the first n tasks tell.
+pub record LowestTo (ts : List Task) (n low rests : ℕ) : Type 0 where
+  pub none-late : lateGreatest ts n ≡ idle
+  pub known : low ≤ n
+  pub lowest : (j : ℕ) → j < n → rank ts low ≤ rank ts j
+  pub rest : 0 < n → (low < n) × (rests ≡ restsTo (load ts (full ts) low) (hyperperiod ts))
+
+pub record LateTo (ts : List Task) (n i : ℕ) : Type 0 where
+  pub is-greatest : lateGreatest ts n ≡ busy i
+  pub known : i < n
+
+abbrev pub FoundTo : List Task → ℕ → Found → Type 0
+FoundTo ts n (Lowest low rests) = LowestTo ts n low rests
+FoundTo ts n (LateFound i) = LateTo ts n i
+
+-- The table once the rows of the first n tasks are walked, which end at `end`: they stand there unless a task is late.
+pub record Filled (ts : List Task) (n end : ℕ) (old table : List ℕ) (found : Found) : Type 0 where
+  pub told : FoundTo ts n found
+  pub same-length : length table ≡ length old
+  pub untouched : drop end table ≡ drop end old
+  pub filled : lateGreatest ts n ≡ idle → take end table ≡ rows ts n
+
+-- ---- a table that is filled
+
+-- The rows of all tasks stand at the front of a table.
+pub record Holds (ts : List Task) (table : List ℕ) : Type 0 where
+  pub enough : allJobs ts ≤ length table
+  pub entry : (i k : ℕ) → i < length ts → k < jobs ts i → getD table (sum i (jobs ts) + k) 0 ≡ response ts i k

@@ -1,0 +1,358 @@
+// The job table: the response of every job in the full-budget schedule, row by row, with hyperperiod, job count and idle ticks;
+// or the first refusal. One task's row comes from a walk over the releases of its level, which is the task and those that outrank
+// it, with one number of state: the level's backlog. What is answered and left in the table is defined in specs/Answer.antt.
+mod answer;
+
+use answer::Found;
+pub use answer::Responses;
+use answer::Row;
+pub use answer::Size;
+pub use answer::Sizes;
+pub use answer::TaskResponses;
+pub use answer::Totals;
+use answer::Turn;
+use arith::Multiple;
+use sheet::Refusal;
+use sheet::Sheet;
+use sheet::Verdict;
+ghost use mathlib.Core.Path.{_≡_};
+ghost use mathlib.Core.List.{_++_};
+ghost use Prim.Native.Nat.{suc, _≤_, _<_};
+ghost use lib.ListN.{getD, length, drop, replicate};
+ghost use Rattle.arith.specs.Limit.{told, within};
+ghost use Rattle.theory.specs.Ranges.{maximum};
+ghost use Rattle.theory.specs.Responses.{hyperperiod, jobs, allJobs, taskResponse};
+ghost use Rattle.sheet.specs.Calls.{places};
+ghost use Rattle.sheet.specs.Told.{refusalIn};
+ghost use Rattle.schedule.specs.Answer.{mostTicks, tasksOf, sizesOf, responsesOf, tableAfter, greatestAfter, toldSize, toldTotals};
+ghost use Rattle.schedule.specs.Steps.{Taken, Period, Holds, refusalOf, lateOf, coming, Level, Ready, Turned, Walk, Walked, Places, RowFilled, Noted, FoundTo, Filled};
+
+// "H at most 1,000,000; J at most 8,192"
+const MOST_TICKS: u32 = 1000000;
+
+const MOST_JOBS: u32 = 8192;
+
+// The hyperperiod: the least common multiple of all periods, or that it is over its limit.
+fn hyperperiod(s: Sheet) -> Multiple
+    requires { ⌜ Taken s ⌝ }
+    ensures { λ r. ⌜ told r ≡ within mostTicks (hyperperiod (tasksOf s)) ⌝ }
+{
+    let mut multiple = 1u32;
+    let mut i = s.count as usize;
+    while 0 < i {
+        i -= 1;
+        let m = arith::lcm(s.tasks[i].period, multiple, MOST_TICKS);
+        let Multiple::Is(next) = m else {
+            return Multiple::Over;
+        };
+        multiple = next;
+    }
+    Multiple::Is(multiple)
+}
+
+// The jobs of all tasks before tick h, the hyperperiod.
+fn job_count(s: Sheet, h: u32) -> u32
+    requires { ⌜ Taken s ⌝ ∗ ⌜ Period s h ⌝ }
+    ensures { λ r. ⌜ r ≡ allJobs (tasksOf s) ⌝ }
+{
+    let n = s.count as usize;
+    let mut jobs = 0u32;
+    let mut i = 0usize;
+    while i < n {
+        jobs += h / s.tasks[i].period;
+        i += 1;
+    }
+    jobs
+}
+
+// The refusal in a verdict that is not fine.
+fn verdict_refusal(v: Verdict) -> Refusal
+    ensures { λ r. ⌜ r ≡ refusalIn v ⌝ }
+{
+    let Verdict::No(r) = v else {
+        return Refusal::Number(0);
+    };
+    r
+}
+
+// H and J, for a sheet that is judged fine and keeps their limits.
+pub fn sizes(s: Sheet) -> Sizes
+    ensures { λ r. ⌜ toldSize r ≡ sizesOf s ⌝ }
+{
+    let v = sheet::judge(s);
+    let Verdict::Fine = v else {
+        return Sizes::No(verdict_refusal(v));
+    };
+    let m = hyperperiod(s);
+    let Multiple::Is(h) = m else {
+        return Sizes::No(Refusal::Number(10));
+    };
+    let jobs = job_count(s, h);
+    if MOST_JOBS < jobs {
+        return Sizes::No(Refusal::Number(11));
+    }
+    Sizes::Of(Size {
+        hyperperiod: h,
+        jobs,
+    })
+}
+
+// The periods and budgets of task i's level, and how many they are.
+fn gather(s: Sheet, i: usize, periods: &mut [u32; 16], budgets: &mut [u32; 16]) -> usize
+    requires { ⌜ Taken s ⌝ ∗ ⌜ (i < s .count) × (length (now periods) ≡ 16) × (length (now budgets) ≡ 16) ⌝ }
+    ensures { λ r. ⌜ Level (tasksOf s) i (now (periods .exit)) (now (budgets .exit)) r ⌝ }
+{
+    let n = s.count as usize;
+    let own = s.tasks[i].rank;
+    let mut size = 0usize;
+    let mut j = 0usize;
+    while j < n {
+        let t = s.tasks[j];
+        if own <= t.rank {
+            periods[size] = t.period;
+            budgets[size] = t.budget;
+            size += 1;
+        }
+        j += 1;
+    }
+    size
+}
+
+// The releases of a level at a tick: what they bring, and the next release after the tick, or `h` where that is earlier.
+fn turn(
+    next: &mut [u32; 16],
+    periods: &[u32; 16],
+    budgets: &[u32; 16],
+    size: usize,
+    at: u32,
+    h: u32,
+) -> Turn
+    requires { ⌜ Ready (now periods) (now budgets) (now next) size at h ⌝ }
+    ensures { λ r. ⌜ Turned (now (periods .entry)) (now (budgets .entry)) (now (next .exit)) size at h r ⌝ }
+{
+    let mut work = 0u32;
+    let mut soon = h;
+    let mut p = 0usize;
+    while p < size {
+        let mut x = next[p];
+        if x == at {
+            work += budgets[p];
+            x = at + periods[p];
+            next[p] = x;
+        }
+        if x < soon {
+            soon = x;
+        }
+        p += 1;
+    }
+    Turn { work, next: soon }
+}
+
+// Fills the row of a task with the responses of its jobs, by a walk over the releases of its level up to `h`: over each gap
+// between two of them the backlog falls by the gap or to 0, and a job of the task is done where it reaches 0.
+fn walk(
+    periods: &[u32; 16],
+    budgets: &[u32; 16],
+    size: usize,
+    period: u32,
+    h: u32,
+    row: &mut [u32],
+) -> Row
+    requires { ⌜ Places (now periods) (now budgets) size ⌝ ∗ ⌜ Walk (coming (now periods) (now budgets) size) period h (length (now row)) ⌝ }
+    ensures { λ r. ⌜ Walked (coming (now (periods .entry)) (now (budgets .entry)) size) period h (now (row .exit)) r ⌝ }
+{
+    let mut next = [0u32; 16];
+    let mut at = 0u32;
+    let mut backlog = 0u32;
+    let mut rests = 0u32;
+    let mut release = 0u32;
+    let mut k = 0usize;
+    while at < h {
+        let now = turn(&mut next, periods, budgets, size, at, h);
+        let work = backlog + now.work;
+        let gap = now.next - at;
+        if gap < work {
+            if release + period <= now.next {
+                return Row::Late;
+            }
+            backlog = work - gap;
+        } else {
+            if release <= at {
+                row[k] = at + work - release;
+                k += 1;
+                release += period;
+            }
+            backlog = 0;
+            rests += gap - work;
+        }
+        at = now.next;
+    }
+    Row::Rests(rests)
+}
+
+// Fills the row of task i, from the numbers of its level.
+fn fill_row(s: Sheet, i: usize, h: u32, row: &mut [u32]) -> Row
+    requires { ⌜ Taken s ⌝ ∗ ⌜ Period s h ⌝ ∗ ⌜ (i < s .count) × (length (now row) ≡ jobs (tasksOf s) i) ⌝ }
+    ensures { λ r. ⌜ RowFilled (tasksOf s) i (now (row .exit)) r ⌝ }
+{
+    let mut periods = [0u32; 16];
+    let mut budgets = [0u32; 16];
+    let size = gather(s, i, &mut periods, &mut budgets);
+    walk(&periods, &budgets, size, s.tasks[i].period, h, &mut *row)
+}
+
+// What the rows tell up to that of task i, from what those before it and its own tell.
+fn noted(s: Sheet, found: Found, i: usize, row: Row) -> Found
+    requires { ⌜ Taken s ⌝ ∗ ⌜ i < s .count ⌝ ∗ ⌜ FoundTo (tasksOf s) i found ⌝ ∗ ⌜ Noted (tasksOf s) i row ⌝ }
+    ensures { λ r. ⌜ FoundTo (tasksOf s) (suc i) r ⌝ }
+{
+    let index = i as u8;
+    match row {
+        Row::Late => match found {
+            Found::Late(worst) => {
+                if s.tasks[worst as usize].rank < s.tasks[i].rank {
+                    Found::Late(index)
+                } else {
+                    found
+                }
+            }
+            Found::Lowest(_, _) => Found::Late(index),
+        },
+        Row::Rests(rests) => match found {
+            Found::Late(_) => found,
+            Found::Lowest(low, _) => {
+                if s.tasks[i].rank <= s.tasks[low as usize].rank {
+                    Found::Lowest(index, rests)
+                } else {
+                    found
+                }
+            }
+        },
+    }
+}
+
+// Fills the table row by row, each in its own part of the table.
+fn fill_rows(s: Sheet, h: u32, table: &mut [u32]) -> Found
+    requires { ⌜ Taken s ⌝ ∗ ⌜ Period s h ⌝ ∗ ⌜ allJobs (tasksOf s) ≤ length (now table) ⌝ }
+    ensures { λ r. ⌜ Filled (tasksOf s) (s .count) (allJobs (tasksOf s)) (now (table .entry)) (now (table .exit)) r ⌝ }
+{
+    let n = s.count as usize;
+    let mut found = Found::Lowest(0, 0);
+    let mut from = 0usize;
+    let mut i = 0usize;
+    while i < n {
+        let end = from + (h / s.tasks[i].period) as usize;
+        let row = fill_row(s, i, h, &mut table[from..end]);
+        found = noted(s, found, i, row);
+        from = end;
+        i += 1;
+    }
+    found
+}
+
+// Zeros in the first n entries.
+fn clear(table: &mut [u32], n: usize)
+    requires { ⌜ n ≤ length (now table) ⌝ }
+    ensures { λ _. ⌜ now (table .exit) ≡ replicate n 0 ++ drop n (now (table .entry)) ⌝ }
+{
+    let mut k = 0usize;
+    while k < n {
+        table[k] = 0;
+        k += 1;
+    }
+}
+
+// The refusal in an answer that gives no sizes.
+fn sizes_refusal(z: Sizes) -> Refusal
+    ensures { λ r. ⌜ r ≡ refusalOf z ⌝ }
+{
+    let Sizes::No(r) = z else {
+        return Refusal::Number(0);
+    };
+    r
+}
+
+// The refusal of a sheet with a late task.
+fn found_refusal(f: Found) -> Refusal
+    ensures { λ r. ⌜ r ≡ lateOf f ⌝ }
+{
+    let Found::Late(i) = f else {
+        return Refusal::Number(0);
+    };
+    Refusal::Late(i)
+}
+
+// The response of each job before H, "task by task in sheet order, each task's jobs in release order", with H, J and the idle ticks.
+pub fn responses(s: Sheet, table: &mut [u32]) -> Responses
+    ensures { λ r. ⌜ toldTotals r ≡ responsesOf s (length (now (table .entry))) ⌝ }
+    ensures { λ r. ⌜ now (table .exit) ≡ tableAfter (responsesOf s (length (now (table .entry)))) (tasksOf s) (now (table .entry)) ⌝ }
+{
+    let z = sizes(s);
+    let Sizes::Of(size) = z else {
+        return Responses::No(sizes_refusal(z));
+    };
+    let jobs = size.jobs as usize;
+    if table.len() < jobs {
+        return Responses::No(Refusal::Number(14));
+    }
+    let found = fill_rows(s, size.hyperperiod, &mut *table);
+    let Found::Lowest(_, idle) = found else {
+        clear(&mut *table, jobs);
+        return Responses::No(found_refusal(found));
+    };
+    Responses::Table(Totals {
+        hyperperiod: size.hyperperiod,
+        jobs: size.jobs,
+        idle,
+    })
+}
+
+// The greatest entry of a row, 0 of none.
+pub fn greatest(row: &[u32]) -> u32
+    ensures { λ r. ⌜ r ≡ maximum (length (now (row .entry))) (λ k. getD (now (row .entry)) k 0) ⌝ }
+{
+    let mut most = 0u32;
+    let mut k = 0usize;
+    while k < row.len() {
+        if most < row[k] {
+            most = row[k];
+        }
+        k += 1;
+    }
+    most
+}
+
+// R of each task, in sixteen places, from the rows of a table.
+fn greatest_each(s: Sheet, h: u32, table: &[u32]) -> [u32; 16]
+    requires { ⌜ Taken s ⌝ ∗ ⌜ Period s h ⌝ ∗ ⌜ Holds (tasksOf s) (now table) ⌝ }
+    ensures { λ r. ⌜ r ≡ places 0 (s .count) (taskResponse (tasksOf s)) ⌝ }
+{
+    let n = s.count as usize;
+    let mut each = [0u32; 16];
+    let mut from = 0usize;
+    let mut i = 0usize;
+    while i < n {
+        let end = from + (h / s.tasks[i].period) as usize;
+        each[i] = greatest(&table[from..end]);
+        from = end;
+        i += 1;
+    }
+    each
+}
+
+// The job table as `responses` answers and leaves it, with "R, the greatest response" of each task in its place; zeros where it is refused.
+pub fn task_responses(s: Sheet, table: &mut [u32]) -> TaskResponses
+    ensures { λ r. ⌜ toldTotals (r .answer) ≡ responsesOf s (length (now (table .entry))) ⌝ }
+    ensures { λ r. ⌜ now (table .exit) ≡ tableAfter (responsesOf s (length (now (table .entry)))) (tasksOf s) (now (table .entry)) ⌝ }
+    ensures { λ r. ⌜ r .greatest ≡ greatestAfter (responsesOf s (length (now (table .entry)))) s ⌝ }
+{
+    let answer = responses(s, &mut *table);
+    let Responses::Table(totals) = answer else {
+        return TaskResponses {
+            answer,
+            greatest: [0u32; 16],
+        };
+    };
+    let greatest = greatest_each(s, totals.hyperperiod, table);
+    TaskResponses { answer, greatest }
+}

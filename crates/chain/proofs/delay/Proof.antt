@@ -1,0 +1,164 @@
+-- The release is judged after H and J and before the table; then the rows are worked out and the chain is walked from that release's job.
+use mathlib.Core.Path.{_≡_, sym, ap, _∙_}
+use Prim.Native.Nat.{_*_, _/_, _%_, _≤_, _<_}
+use native.Mathlib.Omega.{arith}
+use lib.ListN.{length}
+use borrow.Author.Needs.{needs}
+use Rattle.theory.specs.Model.{period}
+use Rattle.theory.specs.Responses.{hyperperiod}
+use Rattle.sheet.specs.Answers.{given, after}
+use Rattle.sheet.specs.Sound.{Sound, judged-sound}
+use Rattle.sheet.specs.Told.{refusal}
+use Rattle.schedule.specs.Answer.{tasksOf, sizesOf, responsesOf, toldSize, toldTotals}
+use Rattle.schedule.specs.Cases.{sizes-given}
+use Rattle.schedule.specs.Results.{responses-given}
+use Rattle.schedule.specs.Steps.{refusalOf}
+use Rattle.chain.specs.Answer.{chainOf, firstOf, delayAt, delayOf}
+use Rattle.chain.specs.Steps.{responsesRefusal}
+use Rattle.chain.specs.SheetLaws.{job-early, job-release}
+use Rattle.chain.specs.Cases.{filled-taken, filled-holds, table-leaves, ended-no, ended-given, ended-number, sizes-untouched, delay-beyond, delay-between, delay-asked}
+use Rattle.chain.proofs.delay.Statement.{statement}
+use Rattle.chain.proofs.delay.Tie as tie
+
+-- H and J are within their limits.
+fits : (c : tie.After-z) → sizesOf (c .before .before .before .before .args .s) ≡ given (c .z .given .0 .0)
+fits c = sym (c .before .before .sizes .ensures) ∙ ap toldSize (c .z .given .1)
+
+sound : (c : tie.After-z) → Sound (c .before .before .before .before .args .s)
+sound c = let s = c .before .before .before .before .args .s in judged-sound s (sizes-given s (fits c) .judged-fine)
+
+-- The release is before H,
+early : (c : tie.Else1) → let a = c .before .before .before .before .before .before .before .args in a .release < hyperperiod (tasksOf (a .s))
+early c = omega (arith, c .if1 .left, sizes-given _ (fits (c .before .before .before)) .hyperperiod-is)
+
+-- and one of the first task's.
+whole : (c : tie.Else2) → let a = c .before .before .before .before .before .before .before .before .before .args in a .release % period (tasksOf (a .s)) (firstOf (chainOf (a .s))) ≤ 0
+whole c = rw (← c .before .first-period .ensures .0) (c .if2 .left)
+
+asked : (c : tie.Else2) → let a = c .before .before .before .before .before .before .before .before .before .args in
+    delayOf (a .s) (a .release) (length (a .table .now)) ≡ after (responsesOf (a .s) (length (a .table .now))) (λ totals. given (delayAt (tasksOf (a .s)) (chainOf (a .s)) (a .release)))
+asked c = let a = c .before .before .before .before .before .before .before .before .before .args in delay-asked (a .s) (length (a .table .now)) (fits (c .before .before .before .before .before)) (a .release) (early (c .before .before)) (whole c)
+
+-- The table is filled.
+filled : (c : tie.After-filled) → let a = c .before .before .before .before .before .before .before .before .before .before .before .before .before .before .before .args in responsesOf (a .s) (length (a .table .now)) ≡ given (c .filled .given .0 .0)
+filled c = sym (c .before .before .before .before .responses .ensures .0) ∙ ap toldTotals (c .filled .given .1)
+
+sizes-requires : tie.Need-sizes-requires
+sizes-requires c κs = search needs
+
+enum-known-z : tie.Need-enum-known-z
+enum-known-z c = search needs
+
+enum-told : tie.Need-enum-told
+enum-told c = search needs
+
+sizes-refusal-requires : tie.Need-sizes-refusal-requires
+sizes-refusal-requires c κs = search needs
+
+returns : tie.Need-returns
+unfolding delayOf
+returns c =
+    let a = c .before .before .before .before .before .args in
+    let no = c .before .enum-told .given .1 in
+    let e : sizesOf (a .s) ≡ refusal (c .sizes-refusal .result) =
+    sym (c .before .before .before .sizes .ensures) ∙ ap toldSize no ∙ ap refusal (sym (c .sizes-refusal .ensures ∙ ap refusalOf no)) in
+    ended-no (tasksOf (a .s)) (a .table .now) _ (c .sizes-refusal .result) e (sizes-untouched (a .s) (a .table .now) (c .sizes-refusal .result) e)
+
+returns-2 : tie.Need-returns-2
+returns-2 c =
+    let a = c .before .before .before .before .before .before .before .args in
+    let f = fits (c .before .before .before) in
+    ended-number 12 (tasksOf (a .s)) (a .table .now) (omega arith)
+    (delay-beyond (a .s) (length (a .table .now)) f (a .release) (omega (arith, c .if1 .taken, sizes-given _ f .hyperperiod-is)))
+
+first-period-requires : tie.Need-first-period-requires
+first-period-requires c κs = sound (c .before .before .before)
+
+rem-if2 : tie.Need-rem-if2
+rem-if2 c = c .first-period .ensures .1
+
+returns-3 : tie.Need-returns-3
+returns-3 c =
+    let a = c .before .before .before .before .before .before .before .before .before .args in
+    ended-number 12 (tasksOf (a .s)) (a .table .now) (omega arith)
+    (delay-between (a .s) (length (a .table .now)) (fits (c .before .before .before .before .before)) (a .release) (early (c .before .before)) (rw (← c .before .first-period .ensures .0) (c .if2 .taken)))
+
+responses-requires : tie.Need-responses-requires
+responses-requires c κs = search needs
+
+enum-known-filled : tie.Need-enum-known-filled
+enum-known-filled c = search needs
+
+enum-told-2 : tie.Need-enum-told-2
+enum-told-2 c = search needs
+
+responses-refusal-requires : tie.Need-responses-refusal-requires
+responses-refusal-requires c κs = search needs
+
+same-length : tie.Need-same-length
+same-length c = c .before .before .before .before .before .responses .kept .1 .0
+
+returns-4 : tie.Need-returns-4
+returns-4 c =
+    let a = c .before .before .before .before .before .before .before .before .before .before .before .before .before .before .before .before .args in
+    let r = c .before .before .before .before .before .responses in
+    let no = c .before .enum-told2 .given .1 in
+    rw (asked (c .before .before .before .before .before .before .before))
+    (ended-no (tasksOf (a .s)) (a .table .now) _ (c .responses-refusal .result)
+    (sym (r .ensures .0) ∙ ap toldTotals no ∙ ap refusal (sym (c .responses-refusal .ensures ∙ ap responsesRefusal no)))
+    (r .ensures .1 ∙ table-leaves (responsesOf (a .s) (length (a .table .now))) (tasksOf (a .s)) (a .table .now)))
+
+div-delay-in : tie.Need-div-delay-in
+div-delay-in c = c .before .before .before .before .before .before .before .before .first-period .ensures .1
+
+delay-in-requires : tie.Need-delay-in-requires
+delay-in-requires c κs =
+    let a = c .before .before .before .before .before .before .before .before .before .before .before .before .before .before .before .before .before .args in
+    let f = filled (c .before .before) in
+    let taken = filled-taken (a .s) (length (a .table .now)) f in (
+      taken,
+      (
+        responses-given (a .s) (length (a .table .now)) f .hyperperiod-is,
+        (
+          filled-holds (a .s) (a .table .now) f (c .before .before .before .before .before .before .responses .ensures .1),
+          rw (c .before .before .before .before .before .before .before .before .before .first-period .ensures .0) (job-early (taken .sound) (taken .accepted .proper) (a .release) (early (c .before .before .before .before .before .before .before .before .before .before))),
+        ),
+      ),
+    )
+
+same-length-2 : tie.Need-same-length-2
+same-length-2 c = c .before .before .before .before .before .before .before .responses .kept .1 .0
+
+returns-5 : tie.Need-returns-5
+returns-5 c =
+    let a = c .before .before .before .before .before .before .before .before .before .before .before .before .before .before .before .before .before .before .args in
+    let r = c .before .before .before .before .before .before .before .responses in
+    let job : a .release / c .before .before .before .before .before .before .before .before .before .before .first-period .result * period (tasksOf (a .s)) (firstOf (chainOf (a .s))) ≡ a .release =
+    rw (c .before .before .before .before .before .before .before .before .before .before .first-period .ensures .0) (job-release (tasksOf (a .s)) (firstOf (chainOf (a .s))) (a .release) (whole (c .before .before .before .before .before .before .before .before .before))) in
+    rw (asked (c .before .before .before .before .before .before .before .before .before))
+    (ended-given (tasksOf (a .s)) (a .table .now) _ (filled (c .before .before .before)) (ap given (sym (c .delay-in .ensures ∙ ap (delayAt (tasksOf (a .s)) (chainOf (a .s))) job)))
+    (r .ensures .1 ∙ table-leaves (responsesOf (a .s) (length (a .table .now))) (tasksOf (a .s)) (a .table .now)))
+
+pub delay-spec : {M : Type 1} → statement M
+delay-spec =
+    tie.close
+    (tie.spec
+    sizes-requires
+    enum-known-z
+    enum-told
+    sizes-refusal-requires
+    returns
+    returns-2
+    first-period-requires
+    rem-if2
+    returns-3
+    responses-requires
+    enum-known-filled
+    enum-told-2
+    responses-refusal-requires
+    same-length
+    returns-4
+    div-delay-in
+    delay-in-requires
+    same-length-2
+    returns-5)

@@ -1,0 +1,115 @@
+-- The limit is judged after H and J and before the table; then it is taken less the worst figure, which is small.
+use mathlib.Core.Path.{_≡_, sym, ap, _∙_}
+use native.Mathlib.Omega.{arith}
+use lib.ListN.{length}
+use mir.Syntax.{w32}
+use mir.ValLaws.{toZ-ofZ}
+use borrow.Author.Needs.{needs}
+use Rattle.sheet.specs.Answers.{given, after}
+use Rattle.sheet.specs.Told.{refusal}
+use Rattle.schedule.specs.Answer.{tasksOf, sizesOf, toldSize}
+use Rattle.schedule.specs.Steps.{refusalOf}
+use Rattle.chain.specs.Answer.{less, worstOf, marginOf, toldWorst}
+use Rattle.chain.specs.Steps.{worstRefusal}
+use Rattle.chain.specs.Cases.{ended-no, ended-given, ended-number, sizes-untouched, margin-over, margin-asked}
+use Rattle.chain.specs.Answered.{worst-given, worst-most}
+use Rattle.chain.proofs.margin.Statement.{statement}
+use Rattle.chain.proofs.margin.Tie as tie
+
+-- H and J are within their limits.
+fits : (c : tie.After-enum-told) → sizesOf (c .before .before .before .before .args .s) ≡ given (c .enum-told .given .0 .0)
+fits c = sym (c .before .before .sizes .ensures) ∙ ap toldSize (c .enum-told .given .1)
+
+asked : (c : tie.Else1) → let a = c .before .before .before .before .before .args in
+    marginOf (a .s) (a .limit) (length (a .table .now)) ≡ after (worstOf (a .s) (length (a .table .now))) (λ figure. given (less (a .limit) (figure .ticks)))
+asked c = let a = c .before .before .before .before .before .args in margin-asked (a .s) (length (a .table .now)) (fits (c .before)) (a .limit) (c .if1 .left)
+
+-- The worst figure is known.
+known : (c : tie.After-w) → let a = c .before .before .before .before .before .before .before .before .before .before .before .args in worstOf (a .s) (length (a .table .now)) ≡ given (c .w .given .0 .0)
+known c = sym (c .before .before .before .before .worst .ensures .0) ∙ ap toldWorst (c .w .given .1)
+
+sizes-requires : tie.Need-sizes-requires
+sizes-requires c κs = search needs
+
+enum-told : tie.Need-enum-told
+enum-told c = search needs
+
+enum-told-2 : tie.Need-enum-told-2
+enum-told-2 c = search needs
+
+sizes-refusal-requires : tie.Need-sizes-refusal-requires
+sizes-refusal-requires c κs = search needs
+
+returns : tie.Need-returns
+unfolding marginOf
+returns c =
+    let a = c .before .before .before .before .before .args in
+    let no = c .before .enum-told2 .given .1 in
+    let e : sizesOf (a .s) ≡ refusal (c .sizes-refusal .result) =
+    sym (c .before .before .before .sizes .ensures) ∙ ap toldSize no ∙ ap refusal (sym (c .sizes-refusal .ensures ∙ ap refusalOf no)) in
+    ended-no (tasksOf (a .s)) (a .table .now) _ (c .sizes-refusal .result) e (sizes-untouched (a .s) (a .table .now) (c .sizes-refusal .result) e)
+
+returns-2 : tie.Need-returns-2
+returns-2 c =
+    let a = c .before .before .before .before .before .args in
+    ended-number 13 (tasksOf (a .s)) (a .table .now) (omega arith) (margin-over (a .s) (length (a .table .now)) (fits (c .before)) (a .limit) (c .if1 .taken))
+
+worst-requires : tie.Need-worst-requires
+worst-requires c κs = search needs
+
+enum-known-w : tie.Need-enum-known-w
+enum-known-w c = search needs
+
+enum-told-3 : tie.Need-enum-told-3
+enum-told-3 c = search needs
+
+worst-refusal-requires : tie.Need-worst-refusal-requires
+worst-refusal-requires c κs = search needs
+
+same-length : tie.Need-same-length
+same-length c = c .before .before .before .before .before .worst .kept .1 .0
+
+returns-3 : tie.Need-returns-3
+returns-3 c =
+    let a = c .before .before .before .before .before .before .before .before .before .before .before .before .args in
+    let w = c .before .before .before .before .before .worst in
+    let no = c .before .enum-told3 .given .1 in
+    rw (asked (c .before .before .before .before .before .before .before))
+    (ended-no (tasksOf (a .s)) (a .table .now) _ (c .worst-refusal .result)
+    (sym (w .ensures .0) ∙ ap toldWorst no ∙ ap refusal (sym (c .worst-refusal .ensures ∙ ap worstRefusal no))) (w .ensures .1))
+
+less-of-requires : tie.Need-less-of-requires
+less-of-requires c κs =
+    let a = c .before .before .before .before .before .before .before .before .before .before .before .before .args in
+    let g = worst-given (a .s) (length (a .table .now)) (known (c .before)) in
+    (c .before .before .before .before .before .before .before .if1 .left, omega (arith, ap (λ f. f .ticks) (g .1), worst-most (g .0)))
+
+same-length-2 : tie.Need-same-length-2
+same-length-2 c = c .before .before .before .before .before .before .worst .kept .1 .0
+
+returns-4 : tie.Need-returns-4
+returns-4 c =
+    let a = c .before .before .before .before .before .before .before .before .before .before .before .before .before .args in
+    let read = toZ-ofZ w32 (c .less-of .result) (record { sfits = c .less-of .ok }) in
+    rw (asked (c .before .before .before .before .before .before .before .before), read)
+    (ended-given (tasksOf (a .s)) (a .table .now) _ (known (c .before .before)) (ap given (sym (c .less-of .ensures))) (c .before .before .before .before .before .before .worst .ensures .1))
+
+pub margin-spec : {M : Type 1} → statement M
+margin-spec =
+    tie.close
+    (tie.spec
+    sizes-requires
+    enum-told
+    enum-told-2
+    sizes-refusal-requires
+    returns
+    returns-2
+    worst-requires
+    enum-known-w
+    enum-told-3
+    worst-refusal-requires
+    same-length
+    returns-3
+    less-of-requires
+    same-length-2
+    returns-4)

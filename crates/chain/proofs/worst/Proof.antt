@@ -1,0 +1,75 @@
+-- The rows are worked out and the worst figure is read from them; a refusal on the way is handed up.
+use mathlib.Core.Path.{_≡_, sym, ap, _∙_}
+use lib.ListN.{length}
+use borrow.Author.Needs.{needs}
+use Rattle.sheet.specs.Answers.{given}
+use Rattle.sheet.specs.Told.{refusal}
+use Rattle.schedule.specs.Answer.{tasksOf, responsesOf, toldTotals}
+use Rattle.schedule.specs.Results.{responses-given}
+use Rattle.chain.specs.Answer.{worstOf}
+use Rattle.chain.specs.Steps.{responsesRefusal}
+use Rattle.chain.specs.Cases.{filled-taken, filled-holds, table-leaves, ended-no, ended-given}
+use Rattle.chain.proofs.worst.Statement.{statement}
+use Rattle.chain.proofs.worst.Tie as tie
+
+-- The table is filled.
+filled : (c : tie.After-filled) → let a = c .before .before .before .before .before .before .before .args in responsesOf (a .s) (length (a .table .now)) ≡ given (c .filled .given .0 .0)
+filled c = sym (c .before .before .before .before .responses .ensures .0) ∙ ap toldTotals (c .filled .given .1)
+
+responses-requires : tie.Need-responses-requires
+responses-requires c κs = search needs
+
+enum-known-filled : tie.Need-enum-known-filled
+enum-known-filled c = search needs
+
+enum-told : tie.Need-enum-told
+enum-told c = search needs
+
+responses-refusal-requires : tie.Need-responses-refusal-requires
+responses-refusal-requires c κs = search needs
+
+same-length : tie.Need-same-length
+same-length c = search needs
+
+returns : tie.Need-returns
+unfolding worstOf
+returns c =
+    let a = c .before .before .before .before .before .before .before .before .args in
+    let r = c .before .before .before .before .before .responses in
+    let no = c .before .enum-told .given .1 in
+    ended-no (tasksOf (a .s)) (a .table .now) _ (c .responses-refusal .result)
+    (sym (r .ensures .0) ∙ ap toldTotals no ∙ ap refusal (sym (c .responses-refusal .ensures ∙ ap responsesRefusal no)))
+    (r .ensures .1 ∙ table-leaves (responsesOf (a .s) (length (a .table .now))) (tasksOf (a .s)) (a .table .now))
+
+worst-in-requires : tie.Need-worst-in-requires
+worst-in-requires c κs =
+    let a = c .before .before .before .before .before .before .before .before .before .args in
+    let f = filled (c .before .before) in (
+      filled-taken (a .s) (length (a .table .now)) f,
+      (responses-given (a .s) (length (a .table .now)) f .hyperperiod-is, filled-holds (a .s) (a .table .now) f (c .before .before .before .before .before .before .responses .ensures .1)),
+    )
+
+same-length-2 : tie.Need-same-length-2
+same-length-2 c = search needs
+
+returns-2 : tie.Need-returns-2
+unfolding worstOf
+returns-2 c =
+    let a = c .before .before .before .before .before .before .before .before .before .before .args in
+    let r = c .before .before .before .before .before .before .before .responses in
+    ended-given (tasksOf (a .s)) (a .table .now) _ (filled (c .before .before .before)) (ap given (sym (c .worst-in .ensures)))
+    (r .ensures .1 ∙ table-leaves (responsesOf (a .s) (length (a .table .now))) (tasksOf (a .s)) (a .table .now))
+
+pub worst-spec : {M : Type 1} → statement M
+worst-spec =
+    tie.close
+    (tie.spec
+    responses-requires
+    enum-known-filled
+    enum-told
+    responses-refusal-requires
+    same-length
+    returns
+    worst-in-requires
+    same-length-2
+    returns-2)

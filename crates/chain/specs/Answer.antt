@@ -1,0 +1,108 @@
+-- What the calls answer, and what they leave in the table. Quotations are from document 01.
+use mathlib.Core.Bool.{Bool, true, cond}
+use mathlib.Core.List.{List, _++_}
+use Prim.Native.Nat.{ℕ, _%_}
+use lib.Dec.{ltb, leb}
+use lib.IntN.{ℤ, pos, _-ℤ_}
+use lib.ListN.{length, getD, take, drop}
+use Rattle.theory.specs.declared.Task.{Task}
+use Rattle.theory.specs.Model.{period}
+use Rattle.theory.specs.Responses.{response, hyperperiod, allJobs, taskResponse}
+use Rattle.theory.specs.Chain.{delay, worst, worstRelease, bound}
+use Rattle.sheet.specs.declared.Sheet.{Sheet}
+use Rattle.sheet.specs.Answers.{Answer, given, refused, when, after, also}
+use Rattle.sheet.specs.Told.{refusal}
+use Rattle.schedule.specs.Answer.{tasksOf, sizesOf, responsesOf, rows, tableAfter}
+use Rattle.chain.specs.declared.answer.Figure.{Figure}
+use Rattle.chain.specs.declared.answer.Delay.{Delay}
+use Rattle.chain.specs.declared.answer.Delay.the-variants.{Ticks as DelayTicks, No as NoDelay}
+use Rattle.chain.specs.declared.answer.Worst.{Worst}
+use Rattle.chain.specs.declared.answer.Worst.the-variants.{Is, No as NoWorst}
+use Rattle.chain.specs.declared.answer.Bound.{Bound}
+use Rattle.chain.specs.declared.answer.Bound.the-variants.{Ticks as BoundTicks, No as NoBound}
+use Rattle.chain.specs.declared.answer.Margin.{Margin}
+use Rattle.chain.specs.declared.answer.Margin.the-variants.{Ticks as MarginTicks, No as NoMargin}
+
+-- The chain on a sheet is in the first `length` of its sixteen places: its first task, and those that follow.
+abbrev pub chainOf : Sheet → List ℕ
+chainOf s = take (s .length) (s .chain)
+
+abbrev pub firstOf : List ℕ → ℕ
+firstOf chain = getD chain 0 0
+
+abbrev pub restOf : List ℕ → List ℕ
+restOf chain = drop 1 chain
+
+-- The figures of a chain, by the responses of the full-budget schedule.
+abbrev pub delayAt : List Task → List ℕ → ℕ → ℕ
+delayAt ts chain release = delay ts (response ts) (firstOf chain) (restOf chain) release
+
+-- "The worst figure is the greatest delay over the first task's releases in 0 to H − 1. With it goes the smallest release that gives it."
+abbrev pub figureOf : List Task → List ℕ → Figure
+figureOf ts chain = record {
+  ticks = worst ts (response ts) (firstOf chain) (restOf chain);
+  release = worstRelease ts (response ts) (firstOf chain) (restOf chain);
+}
+
+abbrev pub quickBound : List Task → List ℕ → ℕ
+quickBound ts chain = bound ts (taskResponse ts) (firstOf chain) (restOf chain)
+
+-- "Margin is a limit less the worst figure, and may fall below zero."
+abbrev pub less : ℕ → ℕ → ℤ
+less limit figure = pos limit -ℤ pos figure
+
+-- 12: "the release asked for is not a multiple of the first chain task's T, or is H or more"
+abbrev pub noRelease : List Task → List ℕ → ℕ → Bool
+noRelease ts chain release = cond (leb (hyperperiod ts) release) true (ltb 0 (release % period ts (firstOf chain)))
+
+-- "2 to 8", "After that 10, 11, 12, 13, 14, 15, each in the calls that have the thing it judges": the answers for a table of `room` entries.
+unfoldable pub delayOf : Sheet → ℕ → ℕ → Answer ℕ
+delayOf s release room =
+    after (sizesOf s) λ size.
+    also (when (noRelease (tasksOf s) (chainOf s) release) 12)
+    (after (responsesOf s room) λ totals.
+    given (delayAt (tasksOf s) (chainOf s) release))
+
+unfoldable pub worstOf : Sheet → ℕ → Answer Figure
+worstOf s room =
+    after (responsesOf s room) λ totals.
+    given (figureOf (tasksOf s) (chainOf s))
+
+unfoldable pub boundOf : Sheet → ℕ → Answer ℕ
+boundOf s room =
+    after (responsesOf s room) λ totals.
+    given (quickBound (tasksOf s) (chainOf s))
+
+-- 13: "the limit is over 4,000,000"
+unfoldable pub marginOf : Sheet → ℕ → ℕ → Answer ℤ
+marginOf s limit room =
+    after (sizesOf s) λ size.
+    also (when (ltb 4000000 limit) 13)
+    (after (worstOf s room) λ figure.
+    given (less limit (figure .ticks)))
+
+-- "The call without a limit uses 1,000 ticks."
+abbrev pub defaultMarginOf : Sheet → ℕ → Answer ℤ
+defaultMarginOf s room = marginOf s 1000 room
+
+-- Each call leaves the rows in the table, or what `responses` leaves with a refusal of that number.
+abbrev pub leaves : {A : Type 0} → Answer A → List Task → List ℕ → List ℕ
+leaves (given x) ts old = rows ts (length ts) ++ drop (allJobs ts) old
+leaves (refused number values) ts old = tableAfter (refused number values) ts old
+
+-- Document 01's answer for each case of the code's enums.
+abbrev pub toldDelay : Delay → Answer ℕ
+toldDelay (DelayTicks ticks) = given ticks
+toldDelay (NoDelay r) = refusal r
+
+abbrev pub toldWorst : Worst → Answer Figure
+toldWorst (Is figure) = given figure
+toldWorst (NoWorst r) = refusal r
+
+abbrev pub toldBound : Bound → Answer ℕ
+toldBound (BoundTicks ticks) = given ticks
+toldBound (NoBound r) = refusal r
+
+abbrev pub toldMargin : Margin → Answer ℤ
+toldMargin (MarginTicks ticks) = given ticks
+toldMargin (NoMargin r) = refusal r

@@ -1,0 +1,91 @@
+-- What an answer tells of its sheet: the sheet is taken, and the figure is the chain's and at most 3,100,000.
+use mathlib.Core.Path.{_≡_, refl}
+use mathlib.Core.List.{List}
+use Prim.Native.Nat.{ℕ, _-_, _≤_, _<_}
+use native.Mathlib.Nat.{le-trans}
+use native.Mathlib.Omega.{arith}
+use lib.Dec.{ltb}
+use lib.IntN.{ℤ}
+use lib.ListN.{length, length-take, length-drop}
+use Rattle.theory.specs.declared.Task.{Task}
+use Rattle.theory.specs.Ranges.{maximum-least}
+use Rattle.theory.specs.Model.{release}
+use Rattle.theory.specs.Responses.{response, jobs}
+use Rattle.theory.specs.Repetition.{response-period}
+use Rattle.theory.specs.Chain.{delay, worst}
+use Rattle.sheet.specs.declared.Sheet.{Sheet}
+use Rattle.sheet.specs.Answers.{Answer, given, refused, when, after}
+use Rattle.sheet.specs.Sound.{also-given}
+use Rattle.schedule.specs.Answer.{tasksOf, sizesOf, responsesOf}
+use Rattle.chain.specs.declared.answer.Figure.{Figure}
+use Rattle.chain.specs.Answer.{chainOf, firstOf, restOf, delayAt, figureOf, quickBound, less, noRelease, delayOf, worstOf, boundOf, marginOf}
+use Rattle.chain.specs.Steps.{Taken}
+use Rattle.chain.specs.Largest.{along-chain, Small, delay-most}
+use Rattle.chain.specs.SheetLaws.{period-positive, period-most, chain-known}
+use Rattle.chain.specs.Cases.{filled-taken}
+
+-- What is given after an answer was given before.
+pub after-given : {A B : Type 0} (source : Answer A) (next : A → Answer B) {b : B} → after source next ≡ given b → (a : A) × (source ≡ given a) × (next a ≡ given b)
+after-given (given a) next e = (a, refl, e)
+after-given (refused number values) next e = let z : _≡_ {A = ℕ} 0 1 = cc in absurd (omega arith)
+
+-- The answer of a chain's call is given for a sheet that is taken.
+pub figure-given : {A : Type 0} (s : Sheet) (room : ℕ) (y : A) {x : A} → after (responsesOf s room) (λ totals. given y) ≡ given x → Taken s × (y ≡ x)
+figure-given s room y e =
+    let g = after-given (responsesOf s room) (λ totals. given y) e in
+    (filled-taken s room (g .1), cc (g .2))
+
+pub worst-given : (s : Sheet) (room : ℕ) {figure : Figure} → worstOf s room ≡ given figure → Taken s × (figureOf (tasksOf s) (chainOf s) ≡ figure)
+unfolding worstOf
+worst-given s room e = figure-given s room (figureOf (tasksOf s) (chainOf s)) e
+
+pub bound-given : (s : Sheet) (room : ℕ) {ticks : ℕ} → boundOf s room ≡ given ticks → Taken s × (quickBound (tasksOf s) (chainOf s) ≡ ticks)
+unfolding boundOf
+bound-given s room e = figure-given s room (quickBound (tasksOf s) (chainOf s)) e
+
+pub delay-given : (s : Sheet) (at room : ℕ) {ticks : ℕ} → delayOf s at room ≡ given ticks → Taken s × (delayAt (tasksOf s) (chainOf s) at ≡ ticks)
+unfolding delayOf
+delay-given s at room e =
+    let judged = after-given (sizesOf s) _ e in
+    let asked = also-given (when (noRelease (tasksOf s) (chainOf s) at) 12) _ (judged .2) in
+    figure-given s room (delayAt (tasksOf s) (chainOf s) at) (asked .1)
+
+pub margin-given : (s : Sheet) (limit room : ℕ) {z : ℤ} → marginOf s limit room ≡ given z
+    → (w r : ℕ) × (worstOf s room ≡ given (record { ticks = w; release = r })) × (less limit w ≡ z)
+unfolding marginOf
+margin-given s limit room e =
+    let judged = after-given (sizesOf s) _ e in
+    let asked = also-given (when (ltb 4000000 limit) 13) _ (judged .2) in
+    let g = after-given (worstOf s room) _ (asked .1) in
+    (g .0 .ticks, g .0 .release, g .1, cc (g .2))
+
+-- ---- the largest figure
+
+module _ {s : Sheet} (taken : Taken s) where
+  task-small : (i : ℕ) → i < length (tasksOf s) → Small (tasksOf s) (response (tasksOf s)) i
+  task-small i l = record {
+    period-positive = period-positive (taken .sound) i l;
+    period-most = period-most (taken .sound) i l;
+    response-most = λ k. le-trans (response-period (taken .accepted) i l k) (period-most (taken .sound) i l);
+  }
+
+  rest-few : length (restOf (chainOf s)) ≤ 15
+  rest-few = omega (arith, length-drop 1 (chainOf s), length-take (s .length) (s .chain), taken .sound .length-most, taken .sound .count-most)
+
+  -- Sixteen tasks of 100,000 ticks: fifteen hand-overs of 200,000 and the last response.
+  pub worst-most : worst (tasksOf s) (response (tasksOf s)) (firstOf (chainOf s)) (restOf (chainOf s)) ≤ 3100000
+  unfolding worst
+  worst-most = maximum-least (jobs ts p) (λ k. delay ts (response ts) p rest (release ts p k)) 3100000 (λ k l. omega (
+    arith,
+    rest-few,
+    delay-most ts (response ts) p rest (release ts p k) (along-chain (Small ts (response ts)) ts task-small p rest (chain-known (taken .sound))),
+  ))
+    where
+      ts : List Task
+      ts = tasksOf s
+
+      p : ℕ
+      p = firstOf (chainOf s)
+
+      rest : List ℕ
+      rest = restOf (chainOf s)

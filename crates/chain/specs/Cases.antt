@@ -1,0 +1,112 @@
+-- The answers case by case: a refusal met on the way, or none, and what the table is left as.
+use mathlib.Core.Path.{_≡_, refl, sym, ap, _∙_, subst}
+use mathlib.Core.List.{List, []}
+use Prim.Native.Nat.{ℕ, _%_, _≤_, _<_}
+use native.Mathlib.Omega.{arith}
+use lib.ListN.{length, drop}
+use lib.Seq.{take-at}
+use borrow.Author.Tests.{lt-ltb, le-ltb, le-leb, lt-leb, ne-eqb}
+use Rattle.theory.specs.declared.Task.{Task}
+use Rattle.theory.specs.Model.{period}
+use Rattle.theory.specs.Responses.{hyperperiod, allJobs}
+use Rattle.sheet.specs.declared.Sheet.{Sheet}
+use Rattle.sheet.specs.declared.Refusal.{Refusal}
+use Rattle.sheet.specs.declared.Refusal.the-variants.{Number, Late}
+use Rattle.sheet.specs.Answers.{Answer, given, refused, after}
+use Rattle.sheet.specs.Sound.{judged-sound}
+use Rattle.sheet.specs.Told.{refusal}
+use Rattle.schedule.specs.declared.answer.Totals.{Totals}
+use Rattle.schedule.specs.declared.answer.Size.{Size}
+use Rattle.schedule.specs.Answer.{tasksOf, sizesOf, responsesOf, rows, tableAfter}
+use Rattle.schedule.specs.Cases.{NumberMost, sizes-most}
+use Rattle.schedule.specs.Results.{responses-given, rows-length}
+use Rattle.chain.specs.Answer.{chainOf, firstOf, delayAt, less, delayOf, worstOf, marginOf, leaves}
+use Rattle.chain.specs.Steps.{Taken, Holds}
+
+-- ---- the sheet and the table behind a filled answer
+
+pub filled-taken : (s : Sheet) (room : ℕ) {totals : Totals} → responsesOf s room ≡ given totals → Taken s
+filled-taken s room e =
+    let g = responses-given s room e in
+    record { sound = judged-sound s (g .judged-fine); accepted = g .accepted; short = g .hyperperiod-most; few = g .jobs-most }
+
+pub filled-holds : (s : Sheet) (old : List ℕ) {table : List ℕ} {totals : Totals} → responsesOf s (length old) ≡ given totals
+    → table ≡ tableAfter (responsesOf s (length old)) (tasksOf s) old → Holds (tasksOf s) table
+unfolding allJobs
+filled-holds s old {table} e q = record {
+  rows-first = rw (q, e) (take-at (rows ts (length ts)) (drop (allJobs ts) old) (allJobs ts) (rows-length ts (length ts)));
+}
+  where
+    ts : List Task
+    ts = tasksOf s
+
+-- ---- how a call ends
+
+-- The answer is as defined, and the table is left so.
+abbrev pub Ended : {A : Type 0} → Answer A → List Task → List ℕ → Answer A → List ℕ → Type 0
+Ended definition ts old answer table = (answer ≡ definition) × (table ≡ leaves definition ts old)
+
+pub table-leaves : (answer : Answer Totals) (ts : List Task) (old : List ℕ) → tableAfter answer ts old ≡ leaves answer ts old
+table-leaves (given totals) ts old = refl
+table-leaves (refused number values) ts old = refl
+
+leaves-refusal : (A B : Type 0) (ts : List Task) (old : List ℕ) (r : Refusal) → leaves {A = A} (refusal r) ts old ≡ leaves {A = B} (refusal r) ts old
+leaves-refusal A B ts old (Number n) = refl
+leaves-refusal A B ts old (Late i) = refl
+
+after-refusal : {A B : Type 0} (r : Refusal) (next : A → Answer B) → after (refusal r) next ≡ refusal r
+after-refusal (Number n) next = refl
+after-refusal (Late i) next = refl
+
+module _ {A B : Type 0} (ts : List Task) (old : List ℕ) {source : Answer A} (next : A → Answer B) where
+  -- "a refusal met on the way is handed up unchanged"
+  pub ended-no : (r : Refusal) {table : List ℕ} → source ≡ refusal r → table ≡ leaves source ts old
+      → Ended (after source next) ts old (refusal r) table
+  ended-no r e t =
+      let d : after source next ≡ refusal r = ap (λ a. after a next) e ∙ after-refusal r next in
+      (sym d, t ∙ ap (λ a. leaves a ts old) e ∙ leaves-refusal A B ts old r ∙ ap (λ a. leaves a ts old) (sym d))
+
+  pub ended-given : {a : A} {b : B} {table : List ℕ} → source ≡ given a → next a ≡ given b
+      → table ≡ leaves source ts old → Ended (after source next) ts old (given b) table
+  ended-given {b = b} e q t =
+      let d : after source next ≡ given b = ap (λ x. after x next) e ∙ q in
+      (sym d, t ∙ ap (λ x. leaves x ts old) e ∙ ap (λ x. leaves x ts old) (sym d))
+
+-- A refusal of H and J leaves the table untouched,
+pub sizes-untouched : (s : Sheet) (old : List ℕ) (r : Refusal) → sizesOf s ≡ refusal r → old ≡ leaves (sizesOf s) (tasksOf s) old
+sizes-untouched s old (Number n) e = let l : n ≤ 11 = subst (NumberMost 11) e (sizes-most s) in rw (e, ne-eqb n 15 (λ z. omega arith))
+sizes-untouched s old (Late i) e = absurd (omega (arith, subst (NumberMost 11) e (sizes-most s)))
+
+-- and so does 12 or 13.
+pub ended-number : {A : Type 0} {definition : Answer A} (n : ℕ) (ts : List Task) (old : List ℕ) → n ≤ 14 → definition ≡ refused n [] → Ended definition ts old (refused n []) old
+ended-number n ts old l e = (sym e, rw (e, ne-eqb n 15 (λ z. omega arith)))
+
+-- ---- 12 and 13
+
+module _ (s : Sheet) (room : ℕ) {size : Size} (fits : sizesOf s ≡ given size) where
+  abbrev ts : List Task
+  ts = tasksOf s
+
+  abbrev T : ℕ
+  T = period ts (firstOf (chainOf s))
+
+  pub delay-beyond : (release : ℕ) → hyperperiod ts ≤ release → delayOf s release room ≡ refused 12 []
+  unfolding delayOf
+  delay-beyond release h = rw (fits, le-leb (hyperperiod ts) release h)
+
+  pub delay-between : (release : ℕ) → release < hyperperiod ts → 0 < release % T → delayOf s release room ≡ refused 12 []
+  unfolding delayOf
+  delay-between release h d = rw (fits, lt-leb (hyperperiod ts) release h, lt-ltb 0 (release % T) d)
+
+  pub delay-asked : (release : ℕ) → release < hyperperiod ts → release % T ≤ 0
+      → delayOf s release room ≡ after (responsesOf s room) (λ totals. given (delayAt ts (chainOf s) release))
+  unfolding delayOf
+  delay-asked release h d = rw (fits, lt-leb (hyperperiod ts) release h, le-ltb 0 (release % T) d)
+
+  pub margin-over : (limit : ℕ) → 4000000 < limit → marginOf s limit room ≡ refused 13 []
+  unfolding marginOf
+  margin-over limit h = rw (fits, lt-ltb 4000000 limit h)
+
+  pub margin-asked : (limit : ℕ) → limit ≤ 4000000 → marginOf s limit room ≡ after (worstOf s room) (λ figure. given (less limit (figure .ticks)))
+  unfolding marginOf
+  margin-asked limit h = rw (fits, le-ltb 4000000 limit h)

@@ -1,0 +1,85 @@
+-- The largest figures: with periods and responses of at most 100,000 ticks no chain of sixteen tasks comes to more than 3,100,000.
+use mathlib.Core.List.{List, [], _∷_}
+use mathlib.Core.Bool.{Bool, true, false, cond}
+use Prim.Native.Nat.{ℕ, suc, _+_, _-_, _*_, _/_, _≤_, _<_}
+use native.Mathlib.Nat.{le-of-dvd}
+use native.Mathlib.Omega.{arith}
+use lib.ListN.{length, getD}
+use Rattle.arith.specs.Whole.{up}
+use Rattle.arith.specs.WholeLaws.{gcd-divides-right, gcd-pos, up-near}
+use Rattle.theory.specs.declared.Task.{Task}
+use Rattle.theory.specs.Model.{period}
+use Rattle.theory.specs.Chain.{Chain, outranks, Table, nextRelease, delay, common, bound}
+use Rattle.chain.specs.Answer.{firstOf, restOf}
+
+-- ---- what holds of every task on a chain
+
+abbrev pub Along : (ℕ → Type 0) → ℕ → List ℕ → Type 0
+Along P p [] = P p
+Along P p (c ∷ rest) = P p × Along P c rest
+
+pub along-first : (P : ℕ → Type 0) (p : ℕ) (rest : List ℕ) → Along P p rest → P p
+along-first P p [] x = x
+along-first P p (c ∷ rest) x = x .0
+
+pub along-entries : (P : ℕ → Type 0) (chain : List ℕ) → 0 < length chain → ((j : ℕ) → j < length chain → P (getD chain j 0)) → Along P (firstOf chain) (restOf chain)
+along-entries P [] some each = absurd (omega arith)
+along-entries P (p ∷ []) some each = each 0 (omega arith)
+along-entries P (p ∷ c ∷ rest) some each = (each 0 (omega arith), along-entries P (c ∷ rest) (omega arith) (λ j l. each (suc j) (omega arith)))
+
+pub along-chain : (P : ℕ → Type 0) (ts : List Task) → ((i : ℕ) → i < length ts → P i) → (p : ℕ) (rest : List ℕ) → Chain ts p rest → Along P p rest
+along-chain P ts each p [] l = each p l
+along-chain P ts each p (c ∷ rest) l = (each p (l .0), along-chain P ts each c rest (l .2))
+
+-- ---- figures
+
+-- The period of task i, and its responses, are at most 100,000.
+pub record Small (ts : List Task) (table : Table) (i : ℕ) : Type 0 where
+  pub period-positive : 0 < period ts i
+  pub period-most : period ts i ≤ 100000
+  pub response-most : (k : ℕ) → table i k ≤ 100000
+
+module _ (ts : List Task) (table : Table) where
+  pub next-most : (p c r : ℕ) → Small ts table p → Small ts table c → nextRelease ts table p c r ≤ r + 200000
+  unfolding nextRelease
+  next-most p c r sp sc = go (outranks ts c p)
+    where
+      go : (b : Bool) → up (period ts c) (cond b (r + table p (r / period ts p)) r) ≤ r + 200000
+      go true = omega (arith, up-near (period ts c) (r + table p (r / period ts p)) (sc .period-positive), sp .response-most (r / period ts p), sc .period-most)
+      go false = omega (arith, up-near (period ts c) r (sc .period-positive), sc .period-most)
+
+  -- Each hand-over takes at most 200,000 ticks, and the last job 100,000.
+  pub delay-most : (p : ℕ) (rest : List ℕ) (r : ℕ) → Along (Small ts table) p rest → delay ts table p rest r ≤ 200000 * length rest + 100000
+  unfolding delay
+  delay-most p [] r s = omega (arith, s .response-most (r / period ts p))
+  delay-most p (c ∷ rest) r s =
+      omega (
+        arith,
+        next-most p c r (s .0) (along-first (Small ts table) c rest (s .1)),
+        delay-most c rest (nextRelease ts table p c r) (s .1),
+      )
+
+-- The same of the quick bound, for responses R of tasks.
+pub record SmallTask (ts : List Task) (R : ℕ → ℕ) (i : ℕ) : Type 0 where
+  pub period-positive : 0 < period ts i
+  pub period-most : period ts i ≤ 100000
+  pub response-most : R i ≤ 100000
+
+module _ (ts : List Task) (R : ℕ → ℕ) where
+  pub common-most : (p c : ℕ) → SmallTask ts R p → SmallTask ts R c → (0 < common ts p c) × (common ts p c ≤ period ts c)
+  common-most p c sp sc = (
+    gcd-pos (period ts p) (period ts c) (sp .period-positive),
+    le-of-dvd (sc .period-positive) (gcd-divides-right (period ts p) (period ts c)),
+  )
+
+  pub pair-most : (p c : ℕ) → SmallTask ts R p → SmallTask ts R c → (period ts c - common ts p c) + cond (outranks ts c p) (up (common ts p c) (R p)) 0 ≤ 200000
+  pair-most p c sp sc = go (outranks ts c p)
+    where
+      go : (b : Bool) → (period ts c - common ts p c) + cond b (up (common ts p c) (R p)) 0 ≤ 200000
+      go true = omega (arith, common-most p c sp sc, up-near (common ts p c) (R p) (common-most p c sp sc .0), sp .response-most, sc .period-most)
+      go false = omega (arith, sc .period-most)
+
+  pub bound-most : (p : ℕ) (rest : List ℕ) → Along (SmallTask ts R) p rest → bound ts R p rest ≤ 200000 * length rest + 100000
+  unfolding bound
+  bound-most p [] s = omega (arith, s .response-most)
+  bound-most p (c ∷ rest) s = omega (arith, pair-most p c (s .0) (along-first (SmallTask ts R) c rest (s .1)), bound-most c rest (s .1))

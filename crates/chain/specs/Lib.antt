@@ -1,0 +1,19 @@
+-- The reader's part: what the calls answer and leave in the table.
+pub mod Answer
+-- What the functions under the calls promise each other, and laws of it.
+pub mod Steps
+pub mod GreatestLaws
+pub mod MarginLaws
+pub mod ReadLaws
+pub mod Largest
+pub mod WalkLaws
+pub mod SheetLaws
+pub mod GatherLaws
+pub mod RowLaws
+pub mod AlikeLaws
+pub mod PlanLaws
+pub mod Cases
+pub mod Answered
+-- The results: what an answer says of every schedule, and one answer for each input.
+pub mod Results
+pub mod Unique

@@ -1,0 +1,189 @@
+-- Demand 3 in the words of the calls: what an answer says of every schedule of the sheet's tasks, whatever the demands of 1 to C.
+use mathlib.Core.Path.{_≡_, sym, ap, _∙_, subst}
+use mathlib.Core.List.{List}
+use Prim.Native.Nat.{ℕ, zero, suc, _+_, _-_, _*_, _/_, _%_, _≤_, _<_}
+use native.Mathlib.Nat.{le-refl, div-add-mod'}
+use native.Mathlib.Omega.{arith}
+use lib.IntN.{ℤ, pos}
+use lib.Signed.{_≤ℤ_, _<ℤ_}
+use Rattle.theory.specs.declared.Task.{Task}
+use Rattle.theory.specs.Model.{period, release, Demands, Within, Run, Schedule}
+use Rattle.theory.specs.Responses.{full, response, hyperperiod}
+use Rattle.theory.specs.Repetition.{response-again}
+use Rattle.theory.specs.Chain.{Chain, delay, worst, bound, PathEnds, Rising}
+use Rattle.theory.specs.ChainLaws.{delay-again}
+use Rattle.theory.specs.Paths.{path-within, path-exists, path-exact}
+use Rattle.theory.specs.Demand3 as demand
+use Rattle.theory.specs.Demand3.{GreatestDelay}
+use Rattle.sheet.specs.declared.Sheet.{Sheet}
+use Rattle.sheet.specs.Answers.{given}
+use Rattle.schedule.specs.Answer.{tasksOf}
+use Rattle.chain.specs.Answer.{chainOf, firstOf, restOf, delayOf, worstOf, boundOf, marginOf}
+use Rattle.chain.specs.Steps.{Taken}
+use Rattle.chain.specs.MarginLaws.{kept-within, below-over}
+use Rattle.chain.specs.SheetLaws.{chain-known}
+use Rattle.chain.specs.Answered.{delay-given, worst-given, bound-given, margin-given}
+
+-- ---- the words
+
+-- The calls answer, for a sheet and a table of `room` entries: `worst` the figure w from the release r, `bound` b,
+-- `delay` t at a release, `margin` z under a limit.
+abbrev pub WorstAnswers : Sheet → ℕ → ℕ → ℕ → Type 0
+WorstAnswers s room w r = worstOf s room ≡ given (record { ticks = w; release = r })
+
+abbrev pub BoundAnswers : Sheet → ℕ → ℕ → Type 0
+BoundAnswers s room b = boundOf s room ≡ given b
+
+abbrev pub DelayAnswers : Sheet → ℕ → ℕ → ℕ → Type 0
+DelayAnswers s at room t = delayOf s at room ≡ given t
+
+abbrev pub MarginAnswers : Sheet → ℕ → ℕ → ℤ → Type 0
+MarginAnswers s limit room z = marginOf s limit room ≡ given z
+
+-- The path of a reading from job k of the chain's first task exists in the run, and ends no later than `ticks` after the job's release.
+pub record PathWithin (s : Sheet) (d : Demands) (run : Run) (k ticks : ℕ) : Type 0 where
+  pub exists : (f : ℕ) × PathEnds d run (firstOf (chainOf s)) (restOf (chainOf s)) k f
+  pub ends : (f : ℕ) → PathEnds d run (firstOf (chainOf s)) (restOf (chainOf s)) k f → f ≤ release (tasksOf s) (firstOf (chainOf s)) k + ticks
+
+-- Each task on the sheet's chain outranks the one before it.
+abbrev pub RanksRise : Sheet → Type 0
+RanksRise s = Rising (tasksOf s) (firstOf (chainOf s)) (restOf (chainOf s))
+
+-- ---- the steps
+
+path-later : {s : Sheet} {d : Demands} {run : Run} {k ticks more : ℕ} → ticks ≤ more → PathWithin s d run k ticks → PathWithin s d run k more
+path-later l x = record { exists = x .exists; ends = λ f path. omega (arith, x .ends f path) }
+
+module _ {s : Sheet} (taken : Taken s) where
+  abbrev ts : List Task
+  ts = tasksOf s
+
+  abbrev p : ℕ
+  p = firstOf (chainOf s)
+
+  abbrev rest : List ℕ
+  rest = restOf (chainOf s)
+
+  chain : Chain ts p rest
+  chain = chain-known (taken .sound)
+
+  path-delay : {d : Demands} → Within ts d → {run : Run} → Schedule ts d run → (k : ℕ) → PathWithin s d run k (delay ts (response ts) p rest (release ts p k))
+  path-delay within schedule k = record {
+    exists = path-exists (taken .accepted) schedule within p rest chain k;
+    ends = λ f path. path-within (taken .accepted) schedule within p rest chain k k f (le-refl _) path;
+  }
+
+  path-worst : {d : Demands} → Within ts d → {run : Run} → Schedule ts d run → (k : ℕ) → PathWithin s d run k (worst ts (response ts) p rest)
+  path-worst {d} within {run} schedule k =
+      let x = demand.no-schedule-exceeds ts (taken .accepted) p rest chain d within run schedule k in record { exists = x .0; ends = x .1 }
+
+  -- Delays repeat with H.
+  delay-turns : (r m : ℕ) → delay ts (response ts) p rest (r + m * hyperperiod ts) ≡ delay ts (response ts) p rest r
+  delay-turns r zero = ap (delay ts (response ts) p rest) (omega arith)
+  delay-turns r (suc m) =
+      ap (delay ts (response ts) p rest) (omega arith)
+      ∙ delay-again (taken .accepted .proper) (response ts) (λ i k l. response-again (taken .accepted) i l k) p rest (r + m * hyperperiod ts) chain
+      ∙ delay-turns r m
+
+  delay-modulo : (r at : ℕ) → r % hyperperiod ts ≡ at → delay ts (response ts) p rest r ≡ delay ts (response ts) p rest at
+  delay-modulo r at e =
+      ap (delay ts (response ts) p rest) (omega (arith, div-add-mod' r (hyperperiod ts))) ∙ delay-turns at (r / hyperperiod ts)
+
+-- ---- `worst`
+
+-- No schedule exceeds the figure. If `worst` answers w, then for all demands of 1 to C, every run that is a schedule for them and every
+-- job of the chain's first task the path of its reading exists, and ends no later than w after the job's release.
+pub no-schedule-exceeds-worst :
+    (s : Sheet) (room w r : ℕ) (answer : WorstAnswers s room w r)
+    (d : Demands) (within : Within (tasksOf s) d) (run : Run) (schedule : Schedule (tasksOf s) d run) (k : ℕ)
+    → PathWithin s d run k w
+no-schedule-exceeds-worst s room w r answer d within run schedule k =
+    let g = worst-given s room answer in subst (PathWithin s d run k) (ap (λ f. f .ticks) (g .1)) (path-worst (g .0) within schedule k)
+
+-- The figure never exceeds what `bound` answers.
+pub worst-within-bound :
+    (s : Sheet) (room w r : ℕ) (answer : WorstAnswers s room w r) (room′ b : ℕ) (answer′ : BoundAnswers s room′ b)
+    → w ≤ b
+worst-within-bound s room w r answer room′ b answer′ =
+    let g = worst-given s room answer in
+    omega (arith, ap (λ f. f .ticks) (g .1), bound-given s room′ answer′ .1, demand.worst-within-bound (tasksOf s) (g .0 .accepted) (firstOf (chainOf s)) (restOf (chainOf s)) (chain (g .0)))
+
+-- Where ranks rise along the chain, the full-budget schedule reaches it: the path from the job released at r takes exactly w.
+pub worst-is-reached :
+    (s : Sheet) (room w r : ℕ) (answer : WorstAnswers s room w r) (rising : RanksRise s)
+    (run : Run) (schedule : Schedule (tasksOf s) (full (tasksOf s)) run)
+    → PathEnds (full (tasksOf s)) run (firstOf (chainOf s)) (restOf (chainOf s)) (r / period (tasksOf s) (firstOf (chainOf s))) (r + w)
+worst-is-reached s room w r answer rising run schedule =
+    let g = worst-given s room answer in
+    subst (λ f. PathEnds (full (tasksOf s)) run (firstOf (chainOf s)) (restOf (chainOf s)) (f .release / period (tasksOf s) (firstOf (chainOf s))) (f .release + f .ticks)) (g .1)
+    (demand.worst-reached (tasksOf s) (g .0 .accepted) (firstOf (chainOf s)) (restOf (chainOf s)) (chain (g .0)) rising run schedule)
+
+-- w is the greatest delay over all releases of the first task, not only those before H, and r the smallest release that gives it.
+pub worst-is-greatest :
+    (s : Sheet) (room w r : ℕ) (answer : WorstAnswers s room w r)
+    → GreatestDelay (tasksOf s) (firstOf (chainOf s)) (restOf (chainOf s)) w r
+worst-is-greatest s room w r answer =
+    let g = worst-given s room answer in
+    subst (λ f. GreatestDelay (tasksOf s) (firstOf (chainOf s)) (restOf (chainOf s)) (f .ticks) (f .release)) (g .1)
+    (demand.worst-of-all (tasksOf s) (g .0 .accepted) (firstOf (chainOf s)) (restOf (chainOf s)) (chain (g .0)))
+
+-- ---- `bound`
+
+-- No schedule exceeds the quick bound either.
+pub no-schedule-exceeds-bound :
+    (s : Sheet) (room b : ℕ) (answer : BoundAnswers s room b)
+    (d : Demands) (within : Within (tasksOf s) d) (run : Run) (schedule : Schedule (tasksOf s) d run) (k : ℕ)
+    → PathWithin s d run k b
+no-schedule-exceeds-bound s room b answer d within run schedule k =
+    let g = bound-given s room answer in
+    path-later (omega (arith, g .1, demand.worst-within-bound (tasksOf s) (g .0 .accepted) (firstOf (chainOf s)) (restOf (chainOf s)) (chain (g .0))))
+    (path-worst (g .0) within schedule k)
+
+-- ---- `delay`
+
+-- If `delay` answers t at a release, then in every schedule the path from the job released there, and from any job released there
+-- modulo H, exists and ends no later than t after that job's release.
+pub no-schedule-exceeds-delay :
+    (s : Sheet) (at room t : ℕ) (answer : DelayAnswers s at room t)
+    (d : Demands) (within : Within (tasksOf s) d) (run : Run) (schedule : Schedule (tasksOf s) d run)
+    (k : ℕ) (released : release (tasksOf s) (firstOf (chainOf s)) k % hyperperiod (tasksOf s) ≡ at)
+    → PathWithin s d run k t
+no-schedule-exceeds-delay s at room t answer d within run schedule k released =
+    let g = delay-given s at room answer in
+    subst (PathWithin s d run k) (delay-modulo (g .0) (release (tasksOf s) (firstOf (chainOf s)) k) at released ∙ g .1) (path-delay (g .0) within schedule k)
+
+-- Where ranks rise along the chain, the full-budget schedule's path from that job takes exactly t.
+pub delay-is-reached :
+    (s : Sheet) (at room t : ℕ) (answer : DelayAnswers s at room t) (rising : RanksRise s)
+    (run : Run) (schedule : Schedule (tasksOf s) (full (tasksOf s)) run)
+    (k : ℕ) (released : release (tasksOf s) (firstOf (chainOf s)) k % hyperperiod (tasksOf s) ≡ at)
+    → PathEnds (full (tasksOf s)) run (firstOf (chainOf s)) (restOf (chainOf s)) k (release (tasksOf s) (firstOf (chainOf s)) k + t)
+delay-is-reached s at room t answer rising run schedule k released =
+    let g = delay-given s at room answer in
+    subst (λ x. PathEnds (full (tasksOf s)) run (firstOf (chainOf s)) (restOf (chainOf s)) k (release (tasksOf s) (firstOf (chainOf s)) k + x))
+    (delay-modulo (g .0) (release (tasksOf s) (firstOf (chainOf s)) k) at released ∙ g .1)
+    (path-exact (g .0 .accepted) schedule (firstOf (chainOf s)) (restOf (chainOf s)) (chain (g .0)) rising k)
+
+-- ---- `margin`
+
+-- The sign tells whether the limit is kept. If the margin is not below zero, every path of every schedule keeps the limit,
+pub margin-keeps :
+    (s : Sheet) (limit room : ℕ) (z : ℤ) (answer : MarginAnswers s limit room z) (kept : pos 0 ≤ℤ z)
+    (d : Demands) (within : Within (tasksOf s) d) (run : Run) (schedule : Schedule (tasksOf s) d run) (k : ℕ)
+    → PathWithin s d run k limit
+margin-keeps s limit room z answer kept d within run schedule k =
+    let g = margin-given s limit room answer in
+    path-later (kept-within limit (g .0) (subst (λ x. pos 0 ≤ℤ x) (sym (g .3)) kept)) (no-schedule-exceeds-worst s room (g .0) (g .1) (g .2) d within run schedule k)
+
+-- and if it is below zero and ranks rise along the chain, a path of the full-budget schedule exceeds it.
+pub margin-exceeded :
+    (s : Sheet) (limit room : ℕ) (z : ℤ) (answer : MarginAnswers s limit room z) (below : z <ℤ pos 0) (rising : RanksRise s)
+    (run : Run) (schedule : Schedule (tasksOf s) (full (tasksOf s)) run)
+    → (k f : ℕ) × PathEnds (full (tasksOf s)) run (firstOf (chainOf s)) (restOf (chainOf s)) k f × (release (tasksOf s) (firstOf (chainOf s)) k + limit < f)
+margin-exceeded s limit room z answer below rising run schedule =
+    let g = margin-given s limit room answer in (
+      g .1 / period (tasksOf s) (firstOf (chainOf s)),
+      g .1 + g .0,
+      worst-is-reached s room (g .0) (g .1) (g .2) rising run schedule,
+      omega (arith, worst-is-greatest s room (g .0) (g .1) (g .2) .first-task, below-over limit (g .0) (subst (λ x. x <ℤ pos 0) (sym (g .3)) below)),
+    )

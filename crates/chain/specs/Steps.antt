@@ -1,0 +1,113 @@
+-- What the functions under the calls promise each other.
+use mathlib.Core.Path.{_≡_}
+use mathlib.Core.Bool.{cond}
+use mathlib.Core.List.{List}
+use Prim.Native.Nat.{ℕ, _+_, _-_, _*_, _%_, _≤_, _<_}
+use lib.Dec.{eqb}
+use lib.ListN.{length, getD, take}
+use Rattle.arith.specs.Whole.{up}
+use Rattle.bits.specs.Bits.{listOf}
+use Rattle.theory.specs.declared.Task.{Task}
+use Rattle.theory.specs.Ranges.{sum, maximum, least}
+use Rattle.theory.specs.Model.{period, release, rank}
+use Rattle.theory.specs.Responses.{hyperperiod, jobs, allJobs, Accepted}
+use Rattle.theory.specs.Chain.{outranks, Table, nextRelease, delay, common}
+use Rattle.sheet.specs.declared.Sheet.{Sheet}
+use Rattle.sheet.specs.declared.Refusal.{Refusal}
+use Rattle.sheet.specs.declared.Refusal.the-variants.{Number}
+use Rattle.sheet.specs.Sound.{Sound}
+use Rattle.schedule.specs.Answer.{tasksOf, rows}
+use Rattle.schedule.specs.declared.answer.Responses.{Responses}
+use Rattle.schedule.specs.declared.answer.Responses.the-variants.{Table as Filled, No}
+use Rattle.chain.specs.declared.answer.Figure.{Figure}
+use Rattle.chain.specs.declared.answer.Worst.{Worst}
+use Rattle.chain.specs.declared.answer.Worst.the-variants.{Is, No as NoWorst}
+use Rattle.chain.specs.declared.answer.HandOver.{HandOver}
+use Rattle.chain.specs.Answer.{firstOf, restOf}
+
+-- ---- a sheet that is answered
+
+-- It is judged fine, within the limits, and no task is late.
+pub record Taken (s : Sheet) : Type 0 where
+  pub sound : Sound s
+  pub accepted : Accepted (tasksOf s)
+  pub short : hyperperiod (tasksOf s) ≤ 1000000
+  pub few : allJobs (tasksOf s) ≤ 8192
+
+-- The table holds the rows of the tasks.
+pub record Holds (ts : List Task) (table : List ℕ) : Type 0 where
+  pub rows-first : take (allJobs ts) table ≡ rows ts (length ts)
+
+-- ---- what the walk reads: by task, the period, the rank, where its row starts and how many jobs it has
+
+-- The tasks of these periods and ranks; a walk asks for no budget.
+unfoldable pub tasksIn : List ℕ → List ℕ → List Task
+tasksIn periods ranks = listOf 16 (λ i. record { period = getD periods i 0; budget = 0; rank = getD ranks i 0 })
+
+-- The responses in these rows, "of the job released at its release modulo H".
+abbrev pub rowsIn : List ℕ → List ℕ → List ℕ → Table
+rowsIn starts counts table i k = getD table (getD starts i 0 + k % getD counts i 0) 0
+
+-- "the greatest response of its jobs released in 0 to H − 1"
+abbrev pub greatestIn : List ℕ → List ℕ → List ℕ → ℕ → ℕ
+greatestIn starts counts table i = maximum (getD counts i 0) (rowsIn starts counts table i)
+
+-- The delay of a chain at job k of its first task.
+abbrev pub delayIn : List ℕ → List ℕ → List ℕ → List ℕ → List ℕ → List ℕ → ℕ → ℕ
+delayIn periods ranks starts counts table chain k =
+    delay (tasksIn periods ranks) (rowsIn starts counts table) (firstOf chain) (restOf chain) (release (tasksIn periods ranks) (firstOf chain) k)
+
+-- From job k of p a reading goes to the job of c at the next release.
+pub record HandedOver (ts : List Task) (table : Table) (p c k : ℕ) (next : HandOver) : Type 0 where
+  pub job-is : release ts c (next .job) ≡ nextRelease ts table p c (release ts p k)
+  pub wait-is : next .wait ≡ nextRelease ts table p c (release ts p k) - release ts p k
+
+-- The row of task i is in the table, and no response in it is over 100,000.
+pub record Row (starts counts table : List ℕ) (i : ℕ) : Type 0 where
+  pub known : i < 16
+  pub some : 0 < getD counts i 0
+  pub few : getD starts i 0 + getD counts i 0 ≤ 8192
+  pub within : getD starts i 0 + getD counts i 0 ≤ length table
+  pub response-most : (k : ℕ) → k < getD counts i 0 → getD table (getD starts i 0 + k) 0 ≤ 100000
+
+-- Its period is within its limits too.
+pub record Entry (periods starts counts table : List ℕ) (i : ℕ) : Type 0 where
+  pub period-positive : 0 < getD periods i 0
+  pub period-most : getD periods i 0 ≤ 100000
+  pub row : Row starts counts table i
+
+-- A chain of such tasks.
+pub record Path (periods starts counts table chain : List ℕ) : Type 0 where
+  pub some : 0 < length chain
+  pub entry : (j : ℕ) → j < length chain → Entry periods starts counts table (getD chain j 0)
+
+-- The greatest of n delays, and the smallest release that gives it, where releases lie T apart.
+pub record Greatest (n T : ℕ) (delays : ℕ → ℕ) (figure : Figure) : Type 0 where
+  pub ticks-is : figure .ticks ≡ maximum n delays
+  pub release-is : figure .release ≡ least n (λ k. eqb (delays k) (maximum n delays)) * T
+
+-- What a pair of neighbours adds to the quick bound.
+abbrev pub pairBound : List Task → (ℕ → ℕ) → ℕ → ℕ → ℕ
+pairBound ts R p c = (period ts c - common ts p c) + cond (outranks ts c p) (up (common ts p c) (R p)) 0
+
+-- The first n of sixteen places hold f 0, f 1, .. f (n − 1).
+pub record Column (places : List ℕ) (n : ℕ) (f : ℕ → ℕ) : Type 0 where
+  pub whole : length places ≡ 16
+  pub holds : (i : ℕ) → i < n → getD places i 0 ≡ f i
+
+-- The arrays hold this of the first n tasks of ts.
+pub record Gathered (ts : List Task) (n : ℕ) (periods ranks starts counts : List ℕ) : Type 0 where
+  pub periods-are : Column periods n (period ts)
+  pub ranks-are : Column ranks n (rank ts)
+  pub starts-are : Column starts n (λ i. sum i (jobs ts))
+  pub counts-are : Column counts n (jobs ts)
+
+-- ---- the refusal that an answer holds
+
+abbrev pub responsesRefusal : Responses → Refusal
+responsesRefusal (Filled totals) = Number 0
+responsesRefusal (No r) = r
+
+abbrev pub worstRefusal : Worst → Refusal
+worstRefusal (Is figure) = Number 0
+worstRefusal (NoWorst r) = r

@@ -1,0 +1,67 @@
+-- One answer and one content of the table for each input of `delay`, `worst`, `bound`, `margin` and `default_margin`.
+use mathlib.Core.Path.{_≡_, sym, ap, _∙_}
+use mathlib.Core.List.{List}
+use Prim.Native.Nat.{ℕ}
+use lib.ListN.{length}
+use Rattle.sheet.specs.declared.Sheet.{Sheet}
+use Rattle.sheet.specs.Unique.{refusal-unique, refusal-given}
+use Rattle.schedule.specs.Answer.{tasksOf}
+use Rattle.chain.specs.declared.answer.Delay.{Delay}
+use Rattle.chain.specs.declared.answer.Delay.the-variants.{Ticks as DelayTicks, No as NoDelay}
+use Rattle.chain.specs.declared.answer.Worst.{Worst}
+use Rattle.chain.specs.declared.answer.Worst.the-variants.{Is, No as NoWorst}
+use Rattle.chain.specs.declared.answer.Bound.{Bound}
+use Rattle.chain.specs.declared.answer.Bound.the-variants.{Ticks as BoundTicks, No as NoBound}
+use Rattle.chain.specs.declared.answer.Margin.{Margin}
+use Rattle.chain.specs.declared.answer.Margin.the-variants.{Ticks as MarginTicks, No as NoMargin}
+use Rattle.chain.specs.Answer.{delayOf, worstOf, boundOf, marginOf, defaultMarginOf, toldDelay, toldWorst, toldBound, toldMargin}
+use Rattle.chain.specs.Cases.{Ended}
+
+-- Document 01's answer tells the case of the enum.
+
+delay-told : (x y : Delay) → toldDelay x ≡ toldDelay y → x ≡ y
+delay-told (DelayTicks m) (DelayTicks n) e = cc
+delay-told (DelayTicks m) (NoDelay q) e = refusal-given q (sym e)
+delay-told (NoDelay r) (DelayTicks n) e = refusal-given r e
+delay-told (NoDelay r) (NoDelay q) e = ap NoDelay (refusal-unique r q e)
+
+worst-told : (x y : Worst) → toldWorst x ≡ toldWorst y → x ≡ y
+worst-told (Is f) (Is g) e = cc
+worst-told (Is f) (NoWorst q) e = refusal-given q (sym e)
+worst-told (NoWorst r) (Is g) e = refusal-given r e
+worst-told (NoWorst r) (NoWorst q) e = ap NoWorst (refusal-unique r q e)
+
+bound-told : (x y : Bound) → toldBound x ≡ toldBound y → x ≡ y
+bound-told (BoundTicks m) (BoundTicks n) e = cc
+bound-told (BoundTicks m) (NoBound q) e = refusal-given q (sym e)
+bound-told (NoBound r) (BoundTicks n) e = refusal-given r e
+bound-told (NoBound r) (NoBound q) e = ap NoBound (refusal-unique r q e)
+
+margin-told : (x y : Margin) → toldMargin x ≡ toldMargin y → x ≡ y
+margin-told (MarginTicks m) (MarginTicks n) e = cc
+margin-told (MarginTicks m) (NoMargin q) e = refusal-given q (sym e)
+margin-told (NoMargin r) (MarginTicks n) e = refusal-given r e
+margin-told (NoMargin r) (NoMargin q) e = ap NoMargin (refusal-unique r q e)
+
+-- Two answers and tables that meet a call's promise are equal.
+
+module _ (s : Sheet) (old table table′ : List ℕ) where
+  pub delay-unique : (release : ℕ) (x y : Delay) → Ended (delayOf s release (length old)) (tasksOf s) old (toldDelay x) table
+      → Ended (delayOf s release (length old)) (tasksOf s) old (toldDelay y) table′ → (x ≡ y) × (table ≡ table′)
+  delay-unique release x y p q = (delay-told x y (p .0 ∙ sym (q .0)), p .1 ∙ sym (q .1))
+
+  pub worst-unique : (x y : Worst) → Ended (worstOf s (length old)) (tasksOf s) old (toldWorst x) table
+      → Ended (worstOf s (length old)) (tasksOf s) old (toldWorst y) table′ → (x ≡ y) × (table ≡ table′)
+  worst-unique x y p q = (worst-told x y (p .0 ∙ sym (q .0)), p .1 ∙ sym (q .1))
+
+  pub bound-unique : (x y : Bound) → Ended (boundOf s (length old)) (tasksOf s) old (toldBound x) table
+      → Ended (boundOf s (length old)) (tasksOf s) old (toldBound y) table′ → (x ≡ y) × (table ≡ table′)
+  bound-unique x y p q = (bound-told x y (p .0 ∙ sym (q .0)), p .1 ∙ sym (q .1))
+
+  pub margin-unique : (limit : ℕ) (x y : Margin) → Ended (marginOf s limit (length old)) (tasksOf s) old (toldMargin x) table
+      → Ended (marginOf s limit (length old)) (tasksOf s) old (toldMargin y) table′ → (x ≡ y) × (table ≡ table′)
+  margin-unique limit x y p q = (margin-told x y (p .0 ∙ sym (q .0)), p .1 ∙ sym (q .1))
+
+  pub default-margin-unique : (x y : Margin) → Ended (defaultMarginOf s (length old)) (tasksOf s) old (toldMargin x) table
+      → Ended (defaultMarginOf s (length old)) (tasksOf s) old (toldMargin y) table′ → (x ≡ y) × (table ≡ table′)
+  default-margin-unique = margin-unique 1000

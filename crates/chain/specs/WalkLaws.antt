@@ -1,0 +1,94 @@
+-- A step of the walk: the chain without its first task is walked from the next release on.
+use mathlib.Core.Path.{_≡_, refl, ap}
+use mathlib.Core.List.{List, [], _∷_}
+use Prim.Native.Nat.{ℕ, _+_, _-_, _*_, _≤_, _<_}
+use native.Mathlib.Nat.{mul-div-cancel}
+use native.Mathlib.Omega.{arith}
+use lib.ListN.{length, getD, take, drop, length-drop}
+use lib.Seq.{take-all, getD-drop}
+use Rattle.theory.specs.declared.Task.{Task}
+use Rattle.theory.specs.Model.{period, release}
+use Rattle.theory.specs.Chain.{Table, delay, bound}
+use Rattle.chain.specs.declared.answer.HandOver.{HandOver}
+use Rattle.chain.specs.Answer.{firstOf, restOf}
+use Rattle.chain.specs.Steps.{tasksIn, rowsIn, greatestIn, pairBound, HandedOver, Entry, Path}
+use Rattle.chain.specs.ReadLaws.{period-in, row-most, greatest-most}
+use Rattle.chain.specs.Largest.{along-entries, Small, SmallTask, delay-most, bound-most}
+
+-- The part of a chain from 1 on is its rest.
+pub part-rest : (chain : List ℕ) → take (length chain - 1) (drop 1 chain) ≡ restOf chain
+part-rest chain = take-all (length chain - 1) (drop 1 chain) (omega (arith, length-drop 1 chain))
+
+module _ (ts : List Task) (table : Table) where
+  pub delay-one : (chain : List ℕ) (k : ℕ) → length chain ≡ 1 → 0 < period ts (firstOf chain)
+      → delay ts table (firstOf chain) (restOf chain) (release ts (firstOf chain) k) ≡ table (firstOf chain) k
+  unfolding delay
+  delay-one [] k e h = absurd (omega arith)
+  delay-one (p ∷ []) k e h = ap (table p) (mul-div-cancel k h)
+  delay-one (p ∷ c ∷ rest) k e h = absurd (omega arith)
+
+  pub delay-more : (chain : List ℕ) (k : ℕ) (next : HandOver) → 1 < length chain → HandedOver ts table (firstOf chain) (getD chain 1 0) k next
+      → delay ts table (firstOf chain) (restOf chain) (release ts (firstOf chain) k)
+      ≡ next .wait + delay ts table (firstOf (restOf chain)) (restOf (restOf chain)) (release ts (firstOf (restOf chain)) (next .job))
+  unfolding delay
+  delay-more [] k next l h = absurd (omega arith)
+  delay-more (p ∷ []) k next l h = absurd (omega arith)
+  delay-more (p ∷ c ∷ rest) k next l h = rw (h .wait-is, h .job-is)
+
+pub bound-one : (ts : List Task) (R : ℕ → ℕ) (chain : List ℕ) → length chain ≡ 1 → bound ts R (firstOf chain) (restOf chain) ≡ R (firstOf chain)
+unfolding bound
+bound-one ts R [] e = absurd (omega arith)
+bound-one ts R (p ∷ []) e = refl
+bound-one ts R (p ∷ c ∷ rest) e = absurd (omega arith)
+
+pub bound-more : (ts : List Task) (R : ℕ → ℕ) (chain : List ℕ) → 1 < length chain
+    → bound ts R (firstOf chain) (restOf chain) ≡ pairBound ts R (firstOf chain) (getD chain 1 0) + bound ts R (firstOf (restOf chain)) (restOf (restOf chain))
+unfolding bound
+bound-more ts R [] l = absurd (omega arith)
+bound-more ts R (p ∷ []) l = absurd (omega arith)
+bound-more ts R (p ∷ c ∷ rest) l = refl
+
+-- ---- by the arrays
+
+module _ {periods starts counts table : List ℕ} (ranks : List ℕ) where
+  pub entry-small : (i : ℕ) → Entry periods starts counts table i → Small (tasksIn periods ranks) (rowsIn starts counts table) i
+  entry-small i e = record {
+    period-positive = rw (period-in periods ranks i (e .row .known)) (e .period-positive);
+    period-most = rw (period-in periods ranks i (e .row .known)) (e .period-most);
+    response-most = row-most (e .row);
+  }
+
+  pub entry-small-task : (i : ℕ) → Entry periods starts counts table i → SmallTask (tasksIn periods ranks) (greatestIn starts counts table) i
+  entry-small-task i e = record {
+    period-positive = entry-small i e .period-positive;
+    period-most = entry-small i e .period-most;
+    response-most = greatest-most (e .row);
+  }
+
+  pub path-rest : {chain : List ℕ} → Path periods starts counts table chain → 1 < length chain → Path periods starts counts table (restOf chain)
+  path-rest {chain} path l = record {
+    some = omega (arith, length-drop 1 chain);
+    entry = λ j m. rw (getD-drop 1 chain j 0) (path .entry (1 + j) (omega (arith, length-drop 1 chain)));
+  }
+
+  pub path-delay : {chain : List ℕ} → Path periods starts counts table chain → (r : ℕ)
+      → delay (tasksIn periods ranks) (rowsIn starts counts table) (firstOf chain) (restOf chain) r ≤ 200000 * length chain
+  path-delay {chain} path r =
+      omega (
+        arith,
+        path .some,
+        length-drop 1 chain,
+        delay-most (tasksIn periods ranks) (rowsIn starts counts table) (firstOf chain) (restOf chain) r
+            (along-entries (Small (tasksIn periods ranks) (rowsIn starts counts table)) chain (path .some) (λ j m. entry-small (getD chain j 0) (path .entry j m))),
+      )
+
+  pub path-bound : {chain : List ℕ} → Path periods starts counts table chain
+      → bound (tasksIn periods ranks) (greatestIn starts counts table) (firstOf chain) (restOf chain) ≤ 200000 * length chain
+  path-bound {chain} path =
+      omega (
+        arith,
+        path .some,
+        length-drop 1 chain,
+        bound-most (tasksIn periods ranks) (greatestIn starts counts table) (firstOf chain) (restOf chain)
+            (along-entries (SmallTask (tasksIn periods ranks) (greatestIn starts counts table)) chain (path .some) (λ j m. entry-small-task (getD chain j 0) (path .entry j m))),
+      )

@@ -1,0 +1,365 @@
+// The chain: its delay at a release, its worst figure, its quick bound and its margin, or the first refusal. Each call works the
+// responses out afresh and leaves them in the lent table, from which a walk along the chain reads them. What is answered and left
+// in the table is defined in specs/Answer.antt; what that says of every schedule stands in specs/Results.antt.
+mod answer;
+
+pub use answer::Bound;
+pub use answer::Delay;
+pub use answer::Figure;
+use answer::HandOver;
+pub use answer::Margin;
+pub use answer::Worst;
+use schedule::Responses;
+use schedule::Sizes;
+use sheet::Refusal;
+use sheet::Sheet;
+ghost use mathlib.Core.Path.{_≡_};
+ghost use Prim.Native.Nat.{_+_, _*_, _≤_, _<_};
+ghost use lib.ListN.{length, getD};
+ghost use Rattle.theory.specs.Ranges.{maximum};
+ghost use Rattle.theory.specs.Responses.{hyperperiod, jobs};
+ghost use Rattle.theory.specs.Model.{period, release};
+ghost use Rattle.theory.specs.Chain.{bound};
+ghost use Rattle.sheet.specs.Sound.{Sound};
+ghost use Rattle.schedule.specs.Answer.{tasksOf};
+ghost use Rattle.schedule.specs.Steps.{refusalOf};
+ghost use Rattle.chain.specs.Answer.{chainOf, firstOf, restOf, delayAt, figureOf, quickBound, less, delayOf, worstOf, boundOf, marginOf, defaultMarginOf, leaves, toldDelay, toldWorst, toldBound, toldMargin};
+ghost use Rattle.chain.specs.Steps.{Taken, Holds, tasksIn, rowsIn, greatestIn, delayIn, HandedOver, Row, Entry, Path, Greatest, pairBound, Gathered, responsesRefusal, worstRefusal};
+
+// "margin limit 0 to 4,000,000"
+const MOST_LIMIT: u32 = 4000000;
+
+const DEFAULT_LIMIT: u32 = 1000;
+
+// Of each task the period, the rank, where its row starts and how many jobs it has.
+fn gather(
+    s: Sheet,
+    h: u32,
+    periods: &mut [u32; 16],
+    ranks: &mut [u8; 16],
+    starts: &mut [u32; 16],
+    counts: &mut [u32; 16],
+)
+    requires { ⌜ Taken s ⌝ ∗ ⌜ h ≡ hyperperiod (tasksOf s) ⌝ ∗ ⌜ (length (now periods) ≡ 16) × (length (now ranks) ≡ 16) × (length (now starts) ≡ 16) × (length (now counts) ≡ 16) ⌝ }
+    ensures { λ _. ⌜ Gathered (tasksOf s) (s .count) (now (periods .exit)) (now (ranks .exit)) (now (starts .exit)) (now (counts .exit)) ⌝ }
+{
+    let n = s.count as usize;
+    let mut from = 0u32;
+    let mut i = 0usize;
+    while i < n {
+        let t = s.tasks[i];
+        let jobs = h / t.period;
+        periods[i] = t.period;
+        ranks[i] = t.rank;
+        starts[i] = from;
+        counts[i] = jobs;
+        from += jobs;
+        i += 1;
+    }
+}
+
+// The response of job k of task i; "a job released at or after H has the response of the job released at its release modulo H".
+fn response_of(i: usize, k: u32, starts: &[u32; 16], counts: &[u32; 16], table: &[u32]) -> u32
+    requires { ⌜ Row (now starts) (now counts) (now table) i ⌝ }
+    ensures { λ r. ⌜ r ≡ rowsIn (now (starts .entry)) (now (counts .entry)) (now (table .entry)) i k ⌝ }
+{
+    let at = starts[i] + k % counts[i];
+    table[at as usize]
+}
+
+// The hand-over from job k of p to c: "the next release", and how long it is until then.
+fn hand_over(
+    p: usize,
+    c: usize,
+    k: u32,
+    periods: &[u32; 16],
+    ranks: &[u8; 16],
+    starts: &[u32; 16],
+    counts: &[u32; 16],
+    table: &[u32],
+) -> HandOver
+    requires { ⌜ Entry (now periods) (now starts) (now counts) (now table) p ⌝ ∗ ⌜ Entry (now periods) (now starts) (now counts) (now table) c ⌝ ∗ ⌜ release (tasksIn (now periods) (now ranks)) p k ≤ 4000000 ⌝ }
+    ensures { λ r. ⌜ HandedOver (tasksIn (now (periods .entry)) (now (ranks .entry))) (rowsIn (now (starts .entry)) (now (counts .entry)) (now (table .entry))) p c k r ⌝ }
+{
+    let release = k * periods[p];
+    let mut ready = release;
+    if ranks[p] < ranks[c] {
+        ready += response_of(p, k, starts, counts, table);
+    }
+    let period = periods[c];
+    let job = (ready + (period - 1)) / period;
+    HandOver {
+        job,
+        wait: job * period - release,
+    }
+}
+
+// The delay of a chain at job k of its first task: the wait for the next release, and then "the same rule asked of a shorter one".
+fn walk(
+    chain: &[u8],
+    k: u32,
+    periods: &[u32; 16],
+    ranks: &[u8; 16],
+    starts: &[u32; 16],
+    counts: &[u32; 16],
+    table: &[u32],
+) -> u32
+    requires { ⌜ Path (now periods) (now starts) (now counts) (now table) (now chain) ⌝ ∗ ⌜ release (tasksIn (now periods) (now ranks)) (firstOf (now chain)) k + 200000 * length (now chain) ≤ 4200000 ⌝ }
+    ensures { λ r. ⌜ r ≡ delayIn (now (periods .entry)) (now (ranks .entry)) (now (starts .entry)) (now (counts .entry)) (now (table .entry)) (now (chain .entry)) k ⌝ }
+{
+    let p = chain[0] as usize;
+    if chain.len() == 1 {
+        return response_of(p, k, starts, counts, table);
+    }
+    let c = chain[1] as usize;
+    let next = hand_over(p, c, k, periods, ranks, starts, counts, table);
+    next.wait + walk(&chain[1..], next.job, periods, ranks, starts, counts, table)
+}
+
+// The greatest delay over the first task's jobs, and the smallest release that gives it.
+fn worst_along(
+    chain: &[u8],
+    periods: &[u32; 16],
+    ranks: &[u8; 16],
+    starts: &[u32; 16],
+    counts: &[u32; 16],
+    table: &[u32],
+) -> Figure
+    requires { ⌜ Path (now periods) (now starts) (now counts) (now table) (now chain) ⌝ ∗ ⌜ (length (now chain) ≤ 16) × (getD (now counts) (firstOf (now chain)) 0 * getD (now periods) (firstOf (now chain)) 0 ≤ 1000000) ⌝ }
+    ensures { λ r. ⌜ Greatest (getD (now (counts .entry)) (firstOf (now (chain .entry))) 0) (getD (now (periods .entry)) (firstOf (now (chain .entry))) 0) (delayIn (now (periods .entry)) (now (ranks .entry)) (now (starts .entry)) (now (counts .entry)) (now (table .entry)) (now (chain .entry))) r ⌝ }
+{
+    let p = chain[0] as usize;
+    let n = counts[p];
+    let mut ticks = 0u32;
+    let mut at = 0u32;
+    let mut k = 0u32;
+    while k < n {
+        let delay = walk(chain, k, periods, ranks, starts, counts, table);
+        if ticks < delay {
+            ticks = delay;
+            at = k;
+        }
+        k += 1;
+    }
+    Figure {
+        ticks,
+        release: at * periods[p],
+    }
+}
+
+// R of task i.
+fn task_response(i: usize, starts: &[u32; 16], counts: &[u32; 16], table: &[u32]) -> u32
+    requires { ⌜ Row (now starts) (now counts) (now table) i ⌝ }
+    ensures { λ r. ⌜ r ≡ greatestIn (now (starts .entry)) (now (counts .entry)) (now (table .entry)) i ⌝ }
+{
+    let from = starts[i] as usize;
+    let end = from + counts[i] as usize;
+    schedule::greatest(&table[from..end])
+}
+
+// What a pair of neighbours adds to the quick bound.
+fn pair_bound(
+    p: usize,
+    c: usize,
+    periods: &[u32; 16],
+    ranks: &[u8; 16],
+    starts: &[u32; 16],
+    counts: &[u32; 16],
+    table: &[u32],
+) -> u32
+    requires { ⌜ Entry (now periods) (now starts) (now counts) (now table) p ⌝ ∗ ⌜ Entry (now periods) (now starts) (now counts) (now table) c ⌝ }
+    ensures { λ r. ⌜ r ≡ pairBound (tasksIn (now (periods .entry)) (now (ranks .entry))) (greatestIn (now (starts .entry)) (now (counts .entry)) (now (table .entry))) p c ⌝ }
+{
+    let g = arith::gcd(periods[p], periods[c]);
+    let mut ticks = periods[c] - g;
+    if ranks[p] < ranks[c] {
+        ticks += arith::up(g, task_response(p, starts, counts, table)) as u32;
+    }
+    ticks
+}
+
+// The quick bound of a chain.
+fn bound_along(
+    chain: &[u8],
+    periods: &[u32; 16],
+    ranks: &[u8; 16],
+    starts: &[u32; 16],
+    counts: &[u32; 16],
+    table: &[u32],
+) -> u32
+    requires { ⌜ Path (now periods) (now starts) (now counts) (now table) (now chain) ⌝ ∗ ⌜ length (now chain) ≤ 16 ⌝ }
+    ensures { λ r. ⌜ r ≡ bound (tasksIn (now (periods .entry)) (now (ranks .entry))) (greatestIn (now (starts .entry)) (now (counts .entry)) (now (table .entry))) (firstOf (now (chain .entry))) (restOf (now (chain .entry))) ⌝ }
+{
+    let p = chain[0] as usize;
+    if chain.len() == 1 {
+        return task_response(p, starts, counts, table);
+    }
+    let c = chain[1] as usize;
+    let ticks = pair_bound(p, c, periods, ranks, starts, counts, table);
+    ticks + bound_along(&chain[1..], periods, ranks, starts, counts, table)
+}
+
+// The delay of the sheet's chain at job k of its first task.
+fn delay_in(s: Sheet, h: u32, k: u32, table: &[u32]) -> u32
+    requires { ⌜ Taken s ⌝ ∗ ⌜ h ≡ hyperperiod (tasksOf s) ⌝ ∗ ⌜ Holds (tasksOf s) (now table) ⌝ ∗ ⌜ k < jobs (tasksOf s) (firstOf (chainOf s)) ⌝ }
+    ensures { λ r. ⌜ r ≡ delayAt (tasksOf s) (chainOf s) (release (tasksOf s) (firstOf (chainOf s)) k) ⌝ }
+{
+    let mut periods = [0u32; 16];
+    let mut ranks = [0u8; 16];
+    let mut starts = [0u32; 16];
+    let mut counts = [0u32; 16];
+    gather(s, h, &mut periods, &mut ranks, &mut starts, &mut counts);
+    let chain = s.chain;
+    let m = s.length as usize;
+    walk(&chain[..m], k, &periods, &ranks, &starts, &counts, table)
+}
+
+// The worst figure of the sheet's chain.
+fn worst_in(s: Sheet, h: u32, table: &[u32]) -> Figure
+    requires { ⌜ Taken s ⌝ ∗ ⌜ h ≡ hyperperiod (tasksOf s) ⌝ ∗ ⌜ Holds (tasksOf s) (now table) ⌝ }
+    ensures { λ r. ⌜ r ≡ figureOf (tasksOf s) (chainOf s) ⌝ }
+{
+    let mut periods = [0u32; 16];
+    let mut ranks = [0u8; 16];
+    let mut starts = [0u32; 16];
+    let mut counts = [0u32; 16];
+    gather(s, h, &mut periods, &mut ranks, &mut starts, &mut counts);
+    let chain = s.chain;
+    let m = s.length as usize;
+    worst_along(&chain[..m], &periods, &ranks, &starts, &counts, table)
+}
+
+// The quick bound of the sheet's chain.
+fn bound_in(s: Sheet, h: u32, table: &[u32]) -> u32
+    requires { ⌜ Taken s ⌝ ∗ ⌜ h ≡ hyperperiod (tasksOf s) ⌝ ∗ ⌜ Holds (tasksOf s) (now table) ⌝ }
+    ensures { λ r. ⌜ r ≡ quickBound (tasksOf s) (chainOf s) ⌝ }
+{
+    let mut periods = [0u32; 16];
+    let mut ranks = [0u8; 16];
+    let mut starts = [0u32; 16];
+    let mut counts = [0u32; 16];
+    gather(s, h, &mut periods, &mut ranks, &mut starts, &mut counts);
+    let chain = s.chain;
+    let m = s.length as usize;
+    bound_along(&chain[..m], &periods, &ranks, &starts, &counts, table)
+}
+
+// T of the chain's first task.
+fn first_period(s: Sheet) -> u32
+    requires { ⌜ Sound s ⌝ }
+    ensures { λ r. ⌜ (r ≡ period (tasksOf s) (firstOf (chainOf s))) × (0 < r) ⌝ }
+{
+    let chain = s.chain;
+    let p = chain[0] as usize;
+    s.tasks[p].period
+}
+
+// Both numbers are "cast to i32 without loss and subtracted".
+fn less_of(limit: u32, figure: u32) -> i32
+    requires { ⌜ (limit ≤ 4000000) × (figure ≤ 4000000) ⌝ }
+    ensures { λ r. ⌜ r ≡ less limit figure ⌝ }
+{
+    limit as i32 - figure as i32
+}
+
+// The refusals in answers that hold one.
+fn sizes_refusal(z: Sizes) -> Refusal
+    ensures { λ r. ⌜ r ≡ refusalOf z ⌝ }
+{
+    let Sizes::No(r) = z else {
+        return Refusal::Number(0);
+    };
+    r
+}
+
+fn responses_refusal(a: Responses) -> Refusal
+    ensures { λ r. ⌜ r ≡ responsesRefusal a ⌝ }
+{
+    let Responses::No(r) = a else {
+        return Refusal::Number(0);
+    };
+    r
+}
+
+fn worst_refusal(w: Worst) -> Refusal
+    ensures { λ r. ⌜ r ≡ worstRefusal w ⌝ }
+{
+    let Worst::No(r) = w else {
+        return Refusal::Number(0);
+    };
+    r
+}
+
+// The delay of the sheet's chain at a release of its first task.
+pub fn delay(s: Sheet, release: u32, table: &mut [u32]) -> Delay
+    ensures { λ r. ⌜ toldDelay r ≡ delayOf s release (length (now (table .entry))) ⌝ }
+    ensures { λ _. ⌜ now (table .exit) ≡ leaves (delayOf s release (length (now (table .entry)))) (tasksOf s) (now (table .entry)) ⌝ }
+{
+    let z = schedule::sizes(s);
+    let Sizes::Of(size) = z else {
+        return Delay::No(sizes_refusal(z));
+    };
+    if size.hyperperiod <= release {
+        return Delay::No(Refusal::Number(12));
+    }
+    let period = first_period(s);
+    if 0 < release % period {
+        return Delay::No(Refusal::Number(12));
+    }
+    let filled = schedule::responses(s, &mut *table);
+    let Responses::Table(totals) = filled else {
+        return Delay::No(responses_refusal(filled));
+    };
+    Delay::Ticks(delay_in(s, totals.hyperperiod, release / period, &*table))
+}
+
+// The greatest delay of the sheet's chain, and the smallest release that gives it.
+pub fn worst(s: Sheet, table: &mut [u32]) -> Worst
+    ensures { λ r. ⌜ toldWorst r ≡ worstOf s (length (now (table .entry))) ⌝ }
+    ensures { λ _. ⌜ now (table .exit) ≡ leaves (worstOf s (length (now (table .entry)))) (tasksOf s) (now (table .entry)) ⌝ }
+{
+    let filled = schedule::responses(s, &mut *table);
+    let Responses::Table(totals) = filled else {
+        return Worst::No(responses_refusal(filled));
+    };
+    Worst::Is(worst_in(s, totals.hyperperiod, &*table))
+}
+
+// The quick bound of the sheet's chain.
+pub fn bound(s: Sheet, table: &mut [u32]) -> Bound
+    ensures { λ r. ⌜ toldBound r ≡ boundOf s (length (now (table .entry))) ⌝ }
+    ensures { λ _. ⌜ now (table .exit) ≡ leaves (boundOf s (length (now (table .entry)))) (tasksOf s) (now (table .entry)) ⌝ }
+{
+    let filled = schedule::responses(s, &mut *table);
+    let Responses::Table(totals) = filled else {
+        return Bound::No(responses_refusal(filled));
+    };
+    Bound::Ticks(bound_in(s, totals.hyperperiod, &*table))
+}
+
+// A limit less the worst figure: "the sign tells whether the limit is kept".
+pub fn margin(s: Sheet, limit: u32, table: &mut [u32]) -> Margin
+    ensures { λ r. ⌜ toldMargin r ≡ marginOf s limit (length (now (table .entry))) ⌝ }
+    ensures { λ _. ⌜ now (table .exit) ≡ leaves (marginOf s limit (length (now (table .entry)))) (tasksOf s) (now (table .entry)) ⌝ }
+{
+    let z = schedule::sizes(s);
+    let Sizes::Of(_) = z else {
+        return Margin::No(sizes_refusal(z));
+    };
+    if MOST_LIMIT < limit {
+        return Margin::No(Refusal::Number(13));
+    }
+    let w = worst(s, &mut *table);
+    let Worst::Is(figure) = w else {
+        return Margin::No(worst_refusal(w));
+    };
+    Margin::Ticks(less_of(limit, figure.ticks))
+}
+
+// "The call without a limit uses 1,000 ticks."
+pub fn default_margin(s: Sheet, table: &mut [u32]) -> Margin
+    ensures { λ r. ⌜ toldMargin r ≡ defaultMarginOf s (length (now (table .entry))) ⌝ }
+    ensures { λ _. ⌜ now (table .exit) ≡ leaves (defaultMarginOf s (length (now (table .entry)))) (tasksOf s) (now (table .entry)) ⌝ }
+{
+    margin(s, DEFAULT_LIMIT, &mut *table)
+}

@@ -1,0 +1,155 @@
+-- An outcome is computed by clearing times: the law that turns one evaluation into what the calls promise.
+use mathlib.Core.Path.{_≡_, refl, sym, ap, ap₂, _∙_}
+use mathlib.Core.List.{List, [], _++_}
+use mathlib.Core.Bool.{Bool, true, false, cond, false≢true}
+use Prim.Native.Nat.{ℕ, zero, suc, _≤_, _<_}
+use native.Mathlib.Decide.{decLe}
+use native.Mathlib.Omega.{arith}
+use lib.Dec.{ltb}
+use lib.ListN.{length}
+use borrow.Author.Tests.{lt-ltb, le-ltb}
+use Rattle.bits.specs.Bits.{listOf}
+use Rattle.bits.specs.Lists.{listOf-same}
+use Rattle.theory.specs.declared.Task.{Task}
+use Rattle.theory.specs.Ranges.{maximum, maximum-above, maximum-least}
+use Rattle.theory.specs.Model.{period, rank, Proper}
+use Rattle.theory.specs.Responses.{response, hyperperiod, jobs, allJobs, taskResponse}
+use Rattle.theory.specs.Simulate.{outranking, greatest}
+use Rattle.theory.specs.Clearing.{clearing, response-clearing, clearing-late, late-clearing}
+use Rattle.theory.specs.Evaluation.{worst-clearing, worst-release-clearing, bound-clearing}
+use Rattle.theory.specs.Chain.{Chain, worst, worstRelease, bound}
+use Rattle.sheet.specs.declared.Sheet.{Sheet}
+use Rattle.sheet.specs.Answers.{Answer, given, refused, Judgement, fine, when, after, also}
+use Rattle.sheet.specs.Calls.{judgeOf}
+use Rattle.sheet.specs.Sound.{judged-sound}
+use Rattle.schedule.specs.Answer.{tasksOf, mostTicks, mostJobs, lateTask, lateGreatest, lateness, sizesOf, responsesOf, rows}
+use Rattle.schedule.specs.Lateness.{job-late, late-job}
+use Rattle.schedule.specs.Cases.{sound-proper}
+use Rattle.chain.specs.Answer.{chainOf, firstOf, restOf, figureOf, quickBound, worstOf, boundOf}
+use Rattle.chain.specs.SheetLaws.{chain-known}
+use Rattle.nine.specs.Outcome.{Figures, outcomeOf}
+
+-- ---- by clearing times
+
+-- a task is late when the greatest of its clearing times passes its period
+abbrev lateBy : List Task → ℕ → Bool
+lateBy ts i = ltb (period ts i) (maximum (jobs ts i) (clearing ts i))
+
+unfoldable pub rowsBy : List Task → ℕ → List ℕ
+rowsBy ts zero = []
+rowsBy ts (suc n) = rowsBy ts n ++ listOf (jobs ts n) (clearing ts n)
+
+abbrev figuresBy : List Task → ℕ → List ℕ → Figures
+figuresBy ts p rest = record {
+  table = rowsBy ts (length ts);
+  worst = worst ts (clearing ts) p rest;
+  release = worstRelease ts (clearing ts) p rest;
+  bound = bound ts (λ i. maximum (jobs ts i) (clearing ts i)) p rest;
+}
+
+unfoldable pub computedOf : Sheet → Answer Figures
+computedOf s =
+    let ts = tasksOf s in
+    also (judgeOf s)
+    (also (when (ltb mostTicks (hyperperiod ts)) 10)
+    (also (when (ltb mostJobs (allJobs ts)) 11)
+    (also (when (ltb mostJobs (allJobs ts)) 14)
+    (also (lateness (greatest (rank ts) (lateBy ts) (length ts)))
+    (given (figuresBy ts (firstOf (chainOf s)) (restOf (chainOf s))))))))
+
+-- ---- they are the definitions'
+
+module _ {ts : List Task} (good : Proper ts) where
+  rows-cleared : (n : ℕ) → n ≤ length ts → rows ts n ≡ rowsBy ts n
+  unfolding rows rowsBy
+  rows-cleared zero h = refl
+  rows-cleared (suc n) h =
+      ap₂ _++_ (rows-cleared n (omega arith)) (listOf-same (jobs ts n) (response ts n) (clearing ts n) (λ k l. response-clearing good n k (omega arith)))
+
+  late-cleared : (i : ℕ) → i < length ts → lateTask ts i ≡ lateBy ts i
+  late-cleared i known = go (lateTask ts i) refl
+    where
+      go : (b : Bool) → lateTask ts i ≡ b → b ≡ lateBy ts i
+      go true e =
+          let x = late-job ts i e in
+          sym (lt-ltb (period ts i) (maximum (jobs ts i) (clearing ts i)) (omega (arith, late-clearing good i (x .0) known (x .2), maximum-above (jobs ts i) (clearing ts i) (x .0) (x .1))))
+      go false e = sym (le-ltb (period ts i) (maximum (jobs ts i) (clearing ts i)) (maximum-least (jobs ts i) (clearing ts i) (period ts i) (λ k l. within k l (decLe (clearing ts i k) (period ts i)))))
+        where
+          within : (k : ℕ) → k < jobs ts i → Dec (clearing ts i k ≤ period ts i) → clearing ts i k ≤ period ts i
+          within k l (yes h) = h
+          within k l (no h) = absurd (false≢true (sym e ∙ job-late ts i k l (clearing-late good i k known (omega arith))))
+
+  greatest-cleared : (n : ℕ) → n ≤ length ts → lateGreatest ts n ≡ greatest (rank ts) (lateBy ts) n
+  unfolding greatest
+  greatest-cleared zero h = refl
+  greatest-cleared (suc n) h = ap₂ (λ b x. cond b (outranking (rank ts) n x) x) (late-cleared n (omega arith)) (greatest-cleared n (omega arith))
+
+  figures-cleared : (p : ℕ) (rest : List ℕ) → Chain ts p rest
+      → record { table = rows ts (length ts); worst = worst ts (response ts) p rest; release = worstRelease ts (response ts) p rest; bound = bound ts (taskResponse ts) p rest } ≡ figuresBy ts p rest
+  figures-cleared p rest chain =
+      ap₂ (λ t w. record { table = t; worst = w; release = worstRelease ts (response ts) p rest; bound = bound ts (taskResponse ts) p rest })
+      (rows-cleared (length ts) (omega arith)) (worst-clearing good p rest chain)
+      ∙ ap₂ (λ r b. record { table = rowsBy ts (length ts); worst = worst ts (clearing ts) p rest; release = r; bound = b })
+      (worst-release-clearing good p rest chain) (bound-clearing good p rest chain)
+
+-- ---- and so are the outcomes
+
+-- one answer asked for three times is the same answer
+once : {A B C D : Type 0} (a : Answer A) (b : B) (c : C) (f : B → C → D)
+    → after a (λ x. after (after a (λ y. given b)) (λ u. after (after a (λ y. given c)) (λ v. given (f u v)))) ≡ after a (λ x. given (f b c))
+once (given x) b c f = refl
+once (refused number values) b c f = refl
+
+also-after : {A B : Type 0} (j : Judgement) (a : Answer A) (f : A → Answer B) → after (also j a) f ≡ also j (after a f)
+also-after (given u) a f = refl
+also-after (refused number values) a f = refl
+
+also-into : {A B C : Type 0} (j : Judgement) (a : Answer A) (f : A → Answer B) (g : B → Answer C) → after (after (also j a) f) g ≡ also j (after (after a f) g)
+also-into (given u) a f g = refl
+also-into (refused number values) a f g = refl
+
+-- what is fine so far decides what is asked next
+also-fine : {A : Type 0} (j : Judgement) (a b : Answer A) → (j ≡ fine → a ≡ b) → also j a ≡ also j b
+also-fine (given tt) a b h = h refl
+also-fine (refused number values) a b h = refl
+
+module _ (s : Sheet) where
+  abbrev ts : List Task
+  ts = tasksOf s
+
+  abbrev late : Judgement
+  late = lateness (lateGreatest ts (length ts))
+
+  figures : Figures
+  figures = record {
+    table = rows ts (length ts);
+    worst = figureOf ts (chainOf s) .ticks;
+    release = figureOf ts (chainOf s) .release;
+    bound = quickBound ts (chainOf s);
+  }
+
+  outcome-judged :
+      outcomeOf s
+      ≡ also (judgeOf s)
+      (also (when (ltb mostTicks (hyperperiod ts)) 10)
+      (also (when (ltb mostJobs (allJobs ts)) 11)
+      (also (when (ltb mostJobs (allJobs ts)) 14)
+      (also late (given figures)))))
+  unfolding outcomeOf worstOf boundOf responsesOf sizesOf figures
+  outcome-judged =
+      once (responsesOf s mostJobs) (figureOf ts (chainOf s)) (quickBound ts (chainOf s)) (λ f q. record { table = rows ts (length ts); worst = f .ticks; release = f .release; bound = q })
+      ∙ also-into (judgeOf s) _ _ _
+      ∙ ap (also (judgeOf s)) (also-into (when (ltb mostTicks (hyperperiod ts)) 10) _ _ _
+      ∙ ap (also (when (ltb mostTicks (hyperperiod ts)) 10)) (also-into (when (ltb mostJobs (allJobs ts)) 11) _ _ _
+      ∙ ap (also (when (ltb mostJobs (allJobs ts)) 11)) (also-after (when (ltb mostJobs (allJobs ts)) 14) _ _
+      ∙ ap (also (when (ltb mostJobs (allJobs ts)) 14)) (also-after late _ _))))
+
+pub outcome-computed : (s : Sheet) → outcomeOf s ≡ computedOf s
+unfolding computedOf figures
+outcome-computed s =
+    outcome-judged s
+    ∙ also-fine (judgeOf s) _ _ (λ e.
+    let good = sound-proper (judged-sound s e) in
+    ap₂ (λ x y. also (when (ltb mostTicks (hyperperiod (tasksOf s))) 10) (also (when (ltb mostJobs (allJobs (tasksOf s))) 11) (also (when (ltb mostJobs (allJobs (tasksOf s))) 14) (also (lateness x) (given y)))))
+    (greatest-cleared good (length (tasksOf s)) (omega arith))
+    (figures-cleared good (firstOf (chainOf s)) (restOf (chainOf s)) (chain-known (judged-sound s e))))

@@ -1,0 +1,3 @@
+pub mod Outcome
+pub mod Computed
+pub mod Nine

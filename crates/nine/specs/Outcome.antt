@@ -1,0 +1,22 @@
+-- What document 01 prints for a sheet, by the definitions that the calls promise: a table of responses, the worst figure, its release and the bound; or a refusal.
+use mathlib.Core.List.{List}
+use Prim.Native.Nat.{ℕ}
+use lib.ListN.{length}
+use Rattle.sheet.specs.declared.Sheet.{Sheet}
+use Rattle.sheet.specs.Answers.{Answer, given, after}
+use Rattle.schedule.specs.Answer.{tasksOf, mostJobs, responsesOf, rows}
+use Rattle.chain.specs.Answer.{worstOf, boundOf}
+
+pub record Figures : Type 0 where
+  pub table : List ℕ
+  pub worst : ℕ
+  pub release : ℕ
+  pub bound : ℕ
+
+-- The answers of `responses`, `worst` and `bound` with a table that is large enough for every sheet.
+unfoldable pub outcomeOf : Sheet → Answer Figures
+outcomeOf s =
+    after (responsesOf s mostJobs) λ totals.
+    after (worstOf s mostJobs) λ figure.
+    after (boundOf s mostJobs) λ quick.
+    given (record { table = rows (tasksOf s) (length (tasksOf s)); worst = figure .ticks; release = figure .release; bound = quick })

@@ -2,6 +2,7 @@
 //! tick, multiples and divisors are found by trying.
 
 pub mod chain;
+pub mod report;
 pub mod schedule;
 pub mod sheet;
 
@@ -25,10 +26,10 @@ impl std::fmt::Display for Refusal {
     }
 }
 
-/// Writes the files of a test crate, or with --check only says whether those that stand there are these.
+/// Writes files of the repository, or with --check only says whether those that stand there are these.
 pub fn store(files: &[(&str, Vec<u8>)]) {
     for (name, content) in files {
-        let path = format!("{}/../crates/{name}", env!("CARGO_MANIFEST_DIR"));
+        let path = format!("{}/../{name}", env!("CARGO_MANIFEST_DIR"));
         if std::env::args().any(|a| a == "--check") {
             assert!(std::fs::read(&path).ok().as_ref() == Some(content), "{path} is not what the model says");
         } else {

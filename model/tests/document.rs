@@ -1,6 +1,7 @@
 //! The model against the figures that document 01 prints.
 
 use model::chain::{bound, delay, margin, worst};
+use model::report::report;
 use model::schedule::{night, responses};
 use model::sheet::{encoded, memory, read, Memory, Task};
 
@@ -70,4 +71,19 @@ fn the_others() {
     assert_eq!(8_192, pair(2, 16_382).unwrap().jobs);
     assert_eq!(11, pair(2, 16_384).err().unwrap().number);
     assert_eq!(Err(1), read(&[]));
+}
+
+#[test]
+fn radio_report() {
+    let expected = "\
+tasks 3 hyperperiod 60 jobs 18 idle 20
+task 0 response 10
+task 1 response 1
+task 2 response 4
+chain 0 1 2
+worst 20 from 20
+bound 24
+margin 980
+";
+    assert_eq!(expected, report(&encoded(&sheet(RADIO, &[]).tasks[..3], &[0, 1, 2])));
 }

@@ -210,5 +210,5 @@ fn main() {
     where_bytes_end(&mut q);
     two_faults(&mut q);
     in_memory(&mut q);
-    store(&[("sheet_test/stdin", q.input), ("sheet_test/stdout", q.output.into_bytes())]);
+    store(&[("crates/sheet_test/stdin", q.input), ("crates/sheet_test/stdout", q.output.into_bytes())]);
 }

@@ -1,0 +1,168 @@
+// The report of one timing sheet, read from standard input: document 01's lines, or the refusal.
+use chain::Bound;
+use chain::Figure;
+use chain::Margin;
+use chain::Worst;
+use schedule::Responses;
+use schedule::Totals;
+use sheet::Refusal;
+use sheet::Sheet;
+use sheet::Verdict;
+
+fn wide(x: u32) -> u64 {
+    x as u64
+}
+
+fn short(x: u8) -> u32 {
+    x as u32
+}
+
+fn print_number(label: &[u8], n: u32) {
+    io::write_all(1, label);
+    io::print_decimal(1, wide(n));
+}
+
+// How far a margin is from zero.
+fn magnitude(z: i32) -> u64 {
+    let ticks = z as i64;
+    if ticks < 0 {
+        return (0 - ticks) as u64;
+    }
+    ticks as u64
+}
+
+fn print_signed(label: &[u8], n: i32) {
+    io::write_all(1, label);
+    if n < 0 {
+        io::write_all(1, b"-");
+    }
+    io::print_decimal(1, magnitude(n));
+}
+
+fn print_refusal(r: Refusal) {
+    match r {
+        Refusal::Number(n) => print_number(b"refused ", short(n)),
+        Refusal::Late(i) => print_number(b"refused 15 task ", short(i)),
+    }
+    io::write_all(1, b"\n");
+}
+
+// "n, H, J, idle"
+fn print_totals(s: Sheet, t: Totals) {
+    print_number(b"tasks ", short(s.count));
+    print_number(b" hyperperiod ", t.hyperperiod);
+    print_number(b" jobs ", t.jobs);
+    print_number(b" idle ", t.idle);
+    io::write_all(1, b"\n");
+}
+
+// "each index with R"
+fn print_tasks(s: Sheet, greatest: [u32; 16]) {
+    let mut i = 0u8;
+    while i < 16 {
+        if i < s.count {
+            let k = i as usize;
+            print_number(b"task ", short(i));
+            print_number(b" response ", greatest[k]);
+            io::write_all(1, b"\n");
+        }
+        i += 1;
+    }
+}
+
+// "the chain's indices"
+fn print_chain(s: Sheet) {
+    io::write_all(1, b"chain");
+    let mut i = 0u8;
+    while i < 16 {
+        if i < s.length {
+            let k = i as usize;
+            print_number(b" ", short(s.chain[k]));
+        }
+        i += 1;
+    }
+    io::write_all(1, b"\n");
+}
+
+// "the worst figure and its smallest release; the bound; the margin under the default limit"
+fn print_figures(figure: Figure, bound: u32, margin: i32) {
+    print_number(b"worst ", figure.ticks);
+    print_number(b" from ", figure.release);
+    print_number(b"\nbound ", bound);
+    print_signed(b"\nmargin ", margin);
+    io::write_all(1, b"\n");
+}
+
+// The figures of the chain, and then everything; a refusal alone.
+fn report_chain(s: Sheet, totals: Totals, greatest: [u32; 16], table: &mut [u32]) {
+    let w = chain::worst(s, &mut *table);
+    let Worst::Is(figure) = w else {
+        return refuse_worst(w);
+    };
+    let b = chain::bound(s, &mut *table);
+    let Bound::Ticks(bound) = b else {
+        return refuse_bound(b);
+    };
+    let m = chain::default_margin(s, &mut *table);
+    let Margin::Ticks(margin) = m else {
+        return refuse_margin(m);
+    };
+    print_totals(s, totals);
+    print_tasks(s, greatest);
+    print_chain(s);
+    print_figures(figure, bound, margin);
+}
+
+fn refuse_worst(w: Worst) {
+    if let Worst::No(r) = w {
+        print_refusal(r);
+    }
+}
+
+fn refuse_bound(b: Bound) {
+    if let Bound::No(r) = b {
+        print_refusal(r);
+    }
+}
+
+fn refuse_margin(m: Margin) {
+    if let Margin::No(r) = m {
+        print_refusal(r);
+    }
+}
+
+fn refuse_sheet(v: Verdict) {
+    if let Verdict::No(r) = v {
+        print_refusal(r);
+    }
+}
+
+fn refuse_responses(a: Responses) {
+    if let Responses::No(r) = a {
+        print_refusal(r);
+    }
+}
+
+fn report(bytes: &[u8], table: &mut [u32]) {
+    let r = sheet::read(bytes);
+    let v = r.verdict;
+    let Verdict::Fine = v else {
+        return refuse_sheet(v);
+    };
+    let s = r.sheet;
+    let t = schedule::task_responses(s, &mut *table);
+    let answer = t.answer;
+    let Responses::Table(totals) = answer else {
+        return refuse_responses(answer);
+    };
+    let greatest = t.greatest;
+    report_chain(s, totals, greatest, table);
+}
+
+// What lies past the 95th byte never changes the reader's answer, so a buffer of 4,096 serves inputs of any length.
+fn main() {
+    let mut input = io::buffer();
+    let n = io::read_full(0, &mut input);
+    let mut table = [0u32; 8192];
+    report(&input[..n], &mut table);
+}

@@ -1,7 +1,8 @@
--- One answer and one content of the table for each input of `delay`, `worst`, `bound`, `margin` and `default_margin`.
+-- One answer and one content of the table for each input of `delay`, `worst`, `bound`, `margin`, `default_margin` and `magnitude`.
 use mathlib.Core.Path.{_≡_, sym, ap, _∙_}
 use mathlib.Core.List.{List}
 use Prim.Native.Nat.{ℕ}
+use lib.IntN.{ℤ, natAbs}
 use lib.ListN.{length}
 use Rattle.sheet.specs.declared.Sheet.{Sheet}
 use Rattle.sheet.specs.Unique.{refusal-unique, refusal-given}
@@ -65,3 +66,6 @@ module _ (s : Sheet) (old table table′ : List ℕ) where
   pub default-margin-unique : (x y : Margin) → Ended (defaultMarginOf s (length old)) (tasksOf s) old (toldMargin x) table
       → Ended (defaultMarginOf s (length old)) (tasksOf s) old (toldMargin y) table′ → (x ≡ y) × (table ≡ table′)
   default-margin-unique = margin-unique 1000
+
+pub magnitude-unique : (z : ℤ) (x y : ℕ) → x ≡ natAbs z → y ≡ natAbs z → x ≡ y
+magnitude-unique z x y p q = p ∙ sym q

@@ -14,6 +14,7 @@ use schedule::Sizes;
 use sheet::Refusal;
 use sheet::Sheet;
 ghost use mathlib.Core.Path.{_≡_};
+ghost use lib.IntN.{natAbs};
 ghost use Prim.Native.Nat.{_+_, _*_, _≤_, _<_};
 ghost use lib.ListN.{length, getD};
 ghost use Rattle.theory.specs.Ranges.{maximum};
@@ -362,4 +363,15 @@ pub fn default_margin(s: Sheet, table: &mut [u32]) -> Margin
     ensures { λ _. ⌜ now (table .exit) ≡ leaves (defaultMarginOf s (length (now (table .entry)))) (tasksOf s) (now (table .entry)) ⌝ }
 {
     margin(s, DEFAULT_LIMIT, &mut *table)
+}
+
+// How far a margin is from zero.
+pub fn magnitude(z: i32) -> u64
+    ensures { λ r. ⌜ r ≡ natAbs z ⌝ }
+{
+    let ticks = z as i64;
+    if ticks < 0 {
+        return (0 - ticks) as u64;
+    }
+    ticks as u64
 }

@@ -22,21 +22,12 @@ fn print_number(label: &[u8], n: u32) {
     io::print_decimal(1, wide(n));
 }
 
-// How far a margin is from zero.
-fn magnitude(z: i32) -> u64 {
-    let ticks = z as i64;
-    if ticks < 0 {
-        return (0 - ticks) as u64;
-    }
-    ticks as u64
-}
-
 fn print_signed(label: &[u8], n: i32) {
     io::write_all(1, label);
     if n < 0 {
         io::write_all(1, b"-");
     }
-    io::print_decimal(1, magnitude(n));
+    io::print_decimal(1, chain::magnitude(n));
 }
 
 fn print_refusal(r: Refusal) {

@@ -66,12 +66,12 @@ module _ (a : ℕ → ℕ) (t e : ℕ) (quiet : Quiet a t e) where
           one : suc (m - t) ≡ suc m - t
           one = omega arith
 
--- From tick t, when so much work comes in, to e: until then no more does.
-pub record Gap (a : ℕ → ℕ) (t e h coming : ℕ) : Type 0 where
+-- From tick t, with so much work, to e: until then no more comes in.
+pub record Gap (a : ℕ → ℕ) (t e h work : ℕ) : Type 0 where
   pub later : t < e
   pub within : e ≤ h
   pub quiet : Quiet a t e
-  pub comes : coming ≡ a t
+  pub works : work ≡ drain a t + a t
 
 -- The walk at tick t: job k, released at `release`, is the next to finish, and has not if it is released.
 pub record Underway (a : ℕ → ℕ) (T h n t left rests release k : ℕ) (xs : List ℕ) : Type 0 where
@@ -112,12 +112,9 @@ module _ {a : ℕ → ℕ} {T h n : ℕ} (w : Walk a T h n) where
       all (yes q) = absurd (omega (arith, s .due, s .release-is, w .ends, mul-le-mul-right {m = suc k} {n = n} T q))
       all (no q) = omega arith
 
-  module _ {t left rests release k e coming : ℕ} {xs : List ℕ} (s : Underway a T h n t left rests release k xs) (gap : Gap a t e h coming) where
-    works : left + coming ≡ drain a t + a t
-    works = omega (arith, s .left-is, gap .comes)
-
-    pub work-fits : left + coming ≤ 20000000
-    work-fits = omega (arith, works, w .bounded t (s .so-far))
+  module _ {t left rests release k e work : ℕ} {xs : List ℕ} (s : Underway a T h n t left rests release k xs) (gap : Gap a t e h work) where
+    pub work-fits : work ≤ 20000000
+    work-fits = omega (arith, gap .works, w .bounded t (s .so-far))
 
     -- No release of the row's own task is passed over.
     own-next : (m : ℕ) → t < m * T → e ≤ m * T
@@ -134,28 +131,28 @@ module _ {a : ℕ → ℕ} {T h n : ℕ} (w : Walk a T h n) where
         go (yes q) = q
         go (no q) = absurd (omega (arith, s .release-is, gap .later, gap .within, w .ends, mul-le-mul-right {m = n} {n = k} T (omega arith)))
 
-    some-work : release ≤ t → 0 < left + coming
+    some-work : release ≤ t → 0 < work
     some-work l = go (ℕ-discrete release t)
       where
-        go : Dec (release ≡ t) → 0 < left + coming
-        go (yes q) = omega (arith, w .own k, gap .comes, ap a (sym (s .release-is) ∙ q))
-        go (no q) = omega (arith, works, s .waits t (omega arith) (le-refl t))
+        go : Dec (release ≡ t) → 0 < work
+        go (yes q) = omega (arith, w .own k, gap .works, ap a (sym (s .release-is) ∙ q))
+        go (no q) = omega (arith, gap .works, s .waits t (omega arith) (le-refl t))
 
-    wait-on : e - t < left + coming → (z : ℕ) → release < z → z ≤ e → 0 < drain a z
+    wait-on : e - t < work → (z : ℕ) → release < z → z ≤ e → 0 < drain a z
     wait-on g z l m = go (decLe z t)
       where
         go : Dec (z ≤ t) → 0 < drain a z
         go (yes q) = s .waits z l q
-        go (no q) = omega (arith, works, stretch a t e (gap .quiet) z (omega arith) m)
+        go (no q) = omega (arith, gap .works, stretch a t e (gap .quiet) z (omega arith) m)
 
-    rested : restsTo a e ≡ rests + ((e - t) - (left + coming))
-    rested = rests-stretch a t e (gap .quiet) e (omega arith) (le-refl e) ∙ ap₂ (λ x y. x + ((e - t) - y)) (sym (s .rests-are)) (sym works)
+    rested : restsTo a e ≡ rests + ((e - t) - work)
+    rested = rests-stretch a t e (gap .quiet) e (omega arith) (le-refl e) ∙ ap₂ (λ x y. x + ((e - t) - y)) (sym (s .rests-are)) (sym (gap .works))
 
-    drained : drain a e ≡ (left + coming) - (e - t)
-    drained = stretch a t e (gap .quiet) e (gap .later) (le-refl e) ∙ ap (λ x. x - (e - t)) (sym works)
+    drained : drain a e ≡ work - (e - t)
+    drained = stretch a t e (gap .quiet) e (gap .later) (le-refl e) ∙ ap (λ x. x - (e - t)) (sym (gap .works))
 
     -- The work goes on to the next release, and no job of the row falls due there.
-    pub waited : e - t < left + coming → e < release + T → Underway a T h n e ((left + coming) - (e - t)) rests release k xs
+    pub waited : e - t < work → e < release + T → Underway a T h n e (work - (e - t)) rests release k xs
     waited g d = record {
       so-far = gap .within;
       left-is = sym drained;
@@ -169,7 +166,7 @@ module _ {a : ℕ → ℕ} {T h n : ℕ} (w : Walk a T h n) where
     }
 
     -- Or one does: the job is not done.
-    pub blocked : e - t < left + coming → release + T ≤ e → (k : ℕ) × (k < length xs) × Blocked a T k
+    pub blocked : e - t < work → release + T ≤ e → (k : ℕ) × (k < length xs) × Blocked a T k
     blocked g d = (k, omega (arith, s .whole, released-few (go (decLe release t))), λ z l m. wait-on g z (omega (arith, s .release-is)) (omega (arith, s .release-is)))
       where
         go : Dec (release ≤ t) → release ≤ t
@@ -177,7 +174,7 @@ module _ {a : ℕ → ℕ} {T h n : ℕ} (w : Walk a T h n) where
         go (no q) = absurd (omega (arith, own-next k (omega (arith, s .release-is)), s .release-is, w .period-positive))
 
     -- The work ends, and the row's next job is not released yet.
-    pub rested-on : left + coming ≤ e - t → t < release → Underway a T h n e 0 (rests + ((e - t) - (left + coming))) release k xs
+    pub rested-on : work ≤ e - t → t < release → Underway a T h n e 0 (rests + ((e - t) - work)) release k xs
     rested-on g l = record {
       so-far = gap .within;
       left-is = omega (arith, drained);
@@ -191,32 +188,32 @@ module _ {a : ℕ → ℕ} {T h n : ℕ} (w : Walk a T h n) where
     }
 
     -- The work ends, and with it job k.
-    module _ (g : left + coming ≤ e - t) (l : release ≤ t) where
+    module _ (g : work ≤ e - t) (l : release ≤ t) where
       next-release : e ≤ release + T
       next-release = omega (arith, own-next (suc k) (omega (arith, s .due, s .release-is)), s .release-is)
 
       pub place-fits : k < length xs
       place-fits = omega (arith, s .whole, released-few l)
 
-      clears : FirstZero (drain a) (k * T) (t + (left + coming))
+      clears : FirstZero (drain a) (k * T) (t + work)
       clears = record {
         after = omega (arith, s .release-is, some-work l);
-        is-zero = omega (arith, works, stretch a t e (gap .quiet) (t + (left + coming)) (omega (arith, some-work l)) (omega arith));
-        first = λ z m q. go z m q (decLe z t) (decLe (t + (left + coming)) z);
+        is-zero = omega (arith, gap .works, stretch a t e (gap .quiet) (t + work) (omega (arith, some-work l)) (omega arith));
+        first = λ z m q. go z m q (decLe z t) (decLe (t + work) z);
       }
         where
-          go : (z : ℕ) → k * T < z → drain a z ≡ 0 → Dec (z ≤ t) → Dec (t + (left + coming) ≤ z) → t + (left + coming) ≤ z
+          go : (z : ℕ) → k * T < z → drain a z ≡ 0 → Dec (z ≤ t) → Dec (t + work ≤ z) → t + work ≤ z
           go z m q (yes x) y = absurd (omega (arith, s .waits z (omega (arith, s .release-is)) x))
           go z m q (no x) (yes y) = y
-          go z m q (no x) (no y) = absurd (omega (arith, works, stretch a t e (gap .quiet) z (omega arith) (omega arith)))
+          go z m q (no x) (no y) = absurd (omega (arith, gap .works, stretch a t e (gap .quiet) z (omega arith) (omega arith)))
 
-      done-then : Cleared a T k (t + (left + coming) - release)
+      done-then : Cleared a T k (t + work - release)
       done-then = record {
         soon = omega (arith, next-release);
         clears = subst (FirstZero (drain a) (k * T)) (omega (arith, s .release-is)) clears;
       }
 
-      pub job-done : Underway a T h n e 0 (rests + ((e - t) - (left + coming))) (release + T) (k + 1) (set xs k (t + (left + coming) - release))
+      pub job-done : Underway a T h n e 0 (rests + ((e - t) - work)) (release + T) (k + 1) (set xs k (t + work - release))
       job-done = record {
         so-far = gap .within;
         left-is = omega (arith, drained);
@@ -226,7 +223,7 @@ module _ {a : ℕ → ℕ} {T h n : ℕ} (w : Walk a T h n) where
         waits = λ z m q. absurd (omega (arith, next-release));
         few = omega (arith, released-few l);
         whole = length-set xs k _ ∙ s .whole;
-        cleared = below-more (λ m. Cleared a T m (getD (set xs k (t + (left + coming) - release)) m 0)) k
+        cleared = below-more (λ m. Cleared a T m (getD (set xs k (t + work - release)) m 0)) k
             (λ m q. subst (Cleared a T m) (sym (getD-set-other xs k m _ 0 (λ z. omega arith))) (s .cleared m q))
             (subst (Cleared a T k) (sym (getD-set-same xs k _ 0 place-fits)) done-then);
       }

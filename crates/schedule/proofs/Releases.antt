@@ -1,5 +1,5 @@
 -- Releases of the places of a level: when the next ones come, and the work they bring.
-use mathlib.Core.Path.{_≡_, refl, sym, ap, _∙_, subst}
+use mathlib.Core.Path.{_≡_, sym, ap, _∙_, subst}
 use mathlib.Core.Logic.{_≢_}
 use mathlib.Core.List.{List}
 use Prim.Native.Nat.{ℕ, zero, suc, _+_, _*_, _%_, _≤_, _<_, _∣_}
@@ -14,6 +14,7 @@ use borrow.Author.Tests.{eq-eqb, ne-eqb}
 use Rattle.arith.specs.Whole.{up}
 use Rattle.arith.specs.WholeLaws.{up-divides, up-above, up-near, up-least, up-is, up-fixed}
 use Rattle.theory.specs.Ranges.{sum, sum-zero}
+use Rattle.theory.specs.Backlog.{drain}
 use Rattle.schedule.specs.declared.answer.Turn.{Turn}
 use Rattle.schedule.specs.Steps.{brings, Places, coming, NextAt, Ready, Turned}
 use Rattle.schedule.proofs.Draining.{Gap}
@@ -55,17 +56,18 @@ module _ {periods budgets : List ℕ} {size : ℕ} (places : Places periods budg
       most (no n) = rw (ne-eqb (t % getD periods p 0) 0 n) (omega arith)
 
   -- After the releases of tick t nothing comes until the next ones,
-  pub turned-gap : {next : List ℕ} {t h : ℕ} {turn : Turn} → Turned periods budgets next size t h turn → Gap (coming periods budgets size) t (turn .next) h (turn .work)
+  pub turned-gap : {next : List ℕ} {t h left : ℕ} {turn : Turn} → Turned periods budgets next size t h left turn → left ≡ drain (coming periods budgets size) t
+      → Gap (coming periods budgets size) t (turn .next) h (turn .work)
   unfolding coming
-  turned-gap {next} {t} {h} {turn} x = record {
+  turned-gap {next} {t} x e = record {
     later = x .later;
     within = x .within;
     quiet = λ u l m. sum-zero size _ (λ p q. before-brings (getD periods p 0) (suc t) (places .period-positive p q) (getD budgets p 0) u l (omega (arith, x .before-next p q, x .next-after p q)));
-    comes = x .work-all;
+    works = x .work-all ∙ ap (λ l. l + coming periods budgets size t) e;
   }
 
   -- and there these are still the next ones.
-  pub turned-next : {next : List ℕ} {t h : ℕ} {turn : Turn} → Turned periods budgets next size t h turn → NextAt periods next size (turn .next)
+  pub turned-next : {next : List ℕ} {t h left : ℕ} {turn : Turn} → Turned periods budgets next size t h left turn → NextAt periods next size (turn .next)
   turned-next {turn = turn} x p q =
       x .next-after p q ∙ before-next (getD periods p 0) (suc _) (places .period-positive p q) (turn .next) (x .later) (omega (arith, x .before-next p q, x .next-after p q))
 
@@ -76,34 +78,34 @@ module _ {periods budgets : List ℕ} {size : ℕ} (places : Places periods budg
 -- The releases of tick t, place by place
 
 -- After the first p places.
-pub record TurnedTo (periods budgets next : List ℕ) (size t h work soon p : ℕ) : Type 0 where
+pub record TurnedTo (periods budgets next : List ℕ) (size t h left work soon p : ℕ) : Type 0 where
   pub few : p ≤ size
   pub next-whole : length next ≡ 16
   pub next-after : (q : ℕ) → q < p → getD next q 0 ≡ up (getD periods q 0) (suc t)
   pub next-at : (q : ℕ) → p ≤ q → q < size → getD next q 0 ≡ up (getD periods q 0) t
-  pub work-is : work ≡ coming periods budgets p t
+  pub work-is : work ≡ left + coming periods budgets p t
   pub later : t < soon
   pub within : soon ≤ h
   pub before-next : (q : ℕ) → q < p → soon ≤ getD next q 0
 
-pub turn-start : {periods budgets next : List ℕ} {size t h : ℕ} → Ready periods budgets next size t h → TurnedTo periods budgets next size t h 0 h 0
+pub turn-start : {periods budgets next : List ℕ} {size t h left : ℕ} → Ready periods budgets next size t h left → TurnedTo periods budgets next size t h left left h 0
 unfolding coming sum
 turn-start r = record {
   few = omega arith;
   next-whole = r .next-whole;
   next-after = λ q l. absurd (omega arith);
   next-at = λ q l m. r .next-at q m;
-  work-is = refl;
+  work-is = omega arith;
   later = r .early;
   within = le-refl _;
   before-next = λ q l. absurd (omega arith);
 }
 
-module _ {periods budgets next : List ℕ} {size t h work soon p : ℕ} (places : Places periods budgets size) (s : TurnedTo periods budgets next size t h work soon p) (known : p < size) where
+module _ {periods budgets next : List ℕ} {size t h left work soon p : ℕ} (places : Places periods budgets size) (s : TurnedTo periods budgets next size t h left work soon p) (known : p < size) where
   abbrev T : ℕ
   T = getD periods p 0
 
-  coming-more : (x : ℕ) → brings t T (getD budgets p 0) ≡ x → work + x ≡ coming periods budgets (p + 1) t
+  coming-more : (x : ℕ) → brings t T (getD budgets p 0) ≡ x → work + x ≡ left + coming periods budgets (p + 1) t
   unfolding coming sum
   coming-more x e = rw add-one (omega (arith, s .work-is, e))
 
@@ -113,7 +115,7 @@ module _ {periods budgets next : List ℕ} {size t h work soon p : ℕ} (places 
   -- One place more: x is its next release after the tick, and y the earliest so far.
   module _ {next′ : List ℕ} {work′ x y : ℕ} (less : y ≤ soon) (least : y ≤ x) (either : t < x → t < y) where
     turned-place : length next′ ≡ 16 → getD next′ p 0 ≡ x → x ≡ up T (suc t) → ((q : ℕ) → q ≢ p → getD next′ q 0 ≡ getD next q 0)
-        → work′ ≡ coming periods budgets (p + 1) t → TurnedTo periods budgets next′ size t h work′ y (p + 1)
+        → work′ ≡ left + coming periods budgets (p + 1) t → TurnedTo periods budgets next′ size t h left work′ y (p + 1)
     turned-place whole here is others more = record {
       few = omega arith;
       next-whole = whole;
@@ -126,7 +128,7 @@ module _ {periods budgets next : List ℕ} {size t h work soon p : ℕ} (places 
     }
 
     -- It has a release now,
-    pub turned-now : getD next p 0 ≡ t → next′ ≡ set next p x → work′ ≡ work + getD budgets p 0 → x ≡ t + T → TurnedTo periods budgets next′ size t h work′ y (p + 1)
+    pub turned-now : getD next p 0 ≡ t → next′ ≡ set next p x → work′ ≡ work + getD budgets p 0 → x ≡ t + T → TurnedTo periods budgets next′ size t h left work′ y (p + 1)
     turned-now e n w is =
         turned-place (ap length n ∙ length-set next p x ∙ s .next-whole)
         (ap (λ xs. getD xs p 0) n ∙ getD-set-same next p x 0 (omega (arith, s .next-whole, places .few)))
@@ -135,7 +137,7 @@ module _ {periods budgets next : List ℕ} {size t h work soon p : ℕ} (places 
         (w ∙ coming-more (getD budgets p 0) (now-brings T t (places .period-positive p known) (getD budgets p 0) (next-now ∙ e)))
 
     -- or it has not.
-    pub turned-later : getD next p 0 ≢ t → next′ ≡ next → work′ ≡ work → x ≡ getD next p 0 → TurnedTo periods budgets next′ size t h work′ y (p + 1)
+    pub turned-later : getD next p 0 ≢ t → next′ ≡ next → work′ ≡ work → x ≡ getD next p 0 → TurnedTo periods budgets next′ size t h left work′ y (p + 1)
     turned-later e n w is =
         turned-place (ap length n ∙ s .next-whole) (ap (λ xs. getD xs p 0) n ∙ sym is)
         (is ∙ sym next-now ∙ later-next T t (places .period-positive p known) (λ z. e (sym next-now ∙ z)))

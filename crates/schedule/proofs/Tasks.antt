@@ -1,4 +1,4 @@
--- The tasks of a sound sheet: the sixteen places read as a list, which is proper, and sums over it.
+-- The tasks of a sheet that is taken: its sixteen places read as a list, their hyperperiod and jobs, and a level gathered from them.
 use mathlib.Core.Path.{_≡_, refl, sym, ap, ap₂, _∙_, subst}
 use mathlib.Core.List.{List}
 use mathlib.Core.Bool.{Bool, true, false, cond}

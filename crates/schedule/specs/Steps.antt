@@ -73,19 +73,20 @@ pub record Level (ts : List Task) (i : ℕ) (periods budgets : List ℕ) (size :
 abbrev pub NextAt : List ℕ → List ℕ → ℕ → ℕ → Type 0
 NextAt periods next size t = (p : ℕ) → p < size → getD next p 0 ≡ up (getD periods p 0) t
 
--- The places before the releases of tick t, which is before h.
-pub record Ready (periods budgets next : List ℕ) (size t h : ℕ) : Type 0 where
+-- The places before the releases of tick t, which is before h, with so much left to do.
+pub record Ready (periods budgets next : List ℕ) (size t h left : ℕ) : Type 0 where
   pub places : Places periods budgets size
   pub next-whole : length next ≡ 16
   pub next-at : NextAt periods next size t
+  pub left-most : left ≤ 20000000
   pub early : t < h
   pub short : h ≤ mostTicks
 
--- And after them: the work they bring, and the next tick with releases, or h.
-pub record Turned (periods budgets next : List ℕ) (size t h : ℕ) (turn : Turn) : Type 0 where
+-- And after them: what is left with the work they bring, and the next tick with releases, or h.
+pub record Turned (periods budgets next : List ℕ) (size t h left : ℕ) (turn : Turn) : Type 0 where
   pub next-whole : length next ≡ 16
   pub next-after : NextAt periods next size (suc t)
-  pub work-all : turn .work ≡ coming periods budgets size t
+  pub work-all : turn .work ≡ left + coming periods budgets size t
   pub later : t < turn .next
   pub within : turn .next ≤ h
   pub before-next : (p : ℕ) → p < size → turn .next ≤ getD next p 0

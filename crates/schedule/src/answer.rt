@@ -30,7 +30,7 @@ pub enum Sizes {
     No(Refusal),
 }
 
-// What a tick brings to a level, and the level's next release.
+// The work of a level at a tick, and the level's next release.
 pub struct Turn {
     pub work: u32,
     pub next: u32,

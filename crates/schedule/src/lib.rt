@@ -118,7 +118,8 @@ fn gather(s: Sheet, i: usize, periods: &mut [u32; 16], budgets: &mut [u32; 16]) 
     size
 }
 
-// The releases of a level at a tick: what they bring, and the next release after the tick, or `h` where that is earlier.
+// The releases of a level at a tick: its backlog with what they bring, and the next release after the tick, or `h` where that
+// is earlier.
 fn turn(
     next: &mut [u32; 16],
     periods: &[u32; 16],
@@ -126,11 +127,12 @@ fn turn(
     size: usize,
     at: u32,
     h: u32,
+    backlog: u32,
 ) -> Turn
-    requires { ⌜ Ready (now periods) (now budgets) (now next) size at h ⌝ }
-    ensures { λ r. ⌜ Turned (now (periods .entry)) (now (budgets .entry)) (now (next .exit)) size at h r ⌝ }
+    requires { ⌜ Ready (now periods) (now budgets) (now next) size at h backlog ⌝ }
+    ensures { λ r. ⌜ Turned (now (periods .entry)) (now (budgets .entry)) (now (next .exit)) size at h backlog r ⌝ }
 {
-    let mut work = 0u32;
+    let mut work = backlog;
     let mut soon = h;
     let mut p = 0usize;
     while p < size {
@@ -168,8 +170,8 @@ fn walk(
     let mut release = 0u32;
     let mut k = 0usize;
     while at < h {
-        let now = turn(&mut next, periods, budgets, size, at, h);
-        let work = backlog + now.work;
+        let now = turn(&mut next, periods, budgets, size, at, h, backlog);
+        let work = now.work;
         let gap = now.next - at;
         if gap < work {
             if release + period <= now.next {

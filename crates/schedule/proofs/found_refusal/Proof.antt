@@ -1,3 +1,4 @@
+-- Of the two cases the late one holds the task.
 use mathlib.Core.Path.{sym, ap}
 use Rattle.schedule.specs.Steps.{lateOf}
 use borrow.Author.Needs.{needs}

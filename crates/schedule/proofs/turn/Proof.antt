@@ -4,18 +4,18 @@ use Rattle.schedule.specs.Steps.{coming}
 use mathlib.Core.Logic.{⊎-elim}
 use native.Mathlib.Omega.{arith}
 use mathlib.Core.Path.{_≡_, sym, ap, _∙_}
-use Prim.Native.Nat.{_-_, _≤_, _<_}
+use Prim.Native.Nat.{_+_, _-_, _≤_, _<_}
 use Rattle.schedule.proofs.Releases.{TurnedTo, turn-start, coming-most, turned-now, turned-later}
 use borrow.Author.Needs.{needs}
 use Rattle.schedule.proofs.turn.Statement.{statement}
 use Rattle.schedule.proofs.turn.Tie as tie
 
 abbrev Inv-loop : tie.InvT-loop
-Inv-loop next₀ periods budgets size at h work₀ soon₀ p₀ next work soon p =
-    TurnedTo periods budgets next size at h work soon p
+Inv-loop next₀ periods budgets size at h backlog work₀ soon₀ p₀ next work soon p =
+    TurnedTo periods budgets next size at h backlog work soon p
 
 abbrev μ-loop : tie.MeasureT-loop
-μ-loop next₀ periods budgets size at h work₀ soon₀ p₀ next work soon p = size - p
+μ-loop next₀ periods budgets size at h backlog work₀ soon₀ p₀ next work soon p = size - p
 
 -- The earliest next release, with that of this place.
 soonest : (c : tie.Joined2 Inv-loop μ-loop) → (c .if2 .soon ≤ c .before .before .before .before .loop .soon) × (c .if2 .soon ≤ c .before .if1 .x)
@@ -46,7 +46,7 @@ add-work : tie.Need-add-work Inv-loop μ-loop
 add-work c =
     let a = c .before .before .before .before .before in
     let l = c .before .before .before .before .loop in
-    omega (arith, a .pre .places .budget-most (l .p) (omega arith), l .inv .work-is, coming-most (a .pre .places) (l .p) (a .args .at) (l .inv .few), a .pre .places .few)
+    omega (arith, a .pre .places .budget-most (l .p) (omega arith), l .inv .work-is, coming-most (a .pre .places) (l .p) (a .args .at) (l .inv .few), a .pre .places .few, a .pre .left-most)
 
 mul-x-2 : tie.Need-mul-x-2 Inv-loop μ-loop
 mul-x-2 c = search needs
@@ -91,7 +91,7 @@ returns c =
     record {
       next-whole = l .inv .next-whole;
       next-after = λ p m. l .inv .next-after p (omega arith);
-      work-all = l .inv .work-is ∙ ap (λ p. coming (a .args .periods .now) (a .args .budgets .now) p (a .args .at)) all;
+      work-all = l .inv .work-is ∙ ap (λ p. a .args .backlog + coming (a .args .periods .now) (a .args .budgets .now) p (a .args .at)) all;
       later = l .inv .later;
       within = l .inv .within;
       before-next = λ p m. l .inv .before-next p (omega arith);

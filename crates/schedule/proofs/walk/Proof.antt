@@ -1,7 +1,7 @@
 -- From release to release of the level one unit of its backlog is done in each tick; a job of the row is done where that ends, and late where it does not by the next release.
 use mathlib.Core.Path.{_≡_, refl}
 use mathlib.Core.Logic.{⊎-elim}
-use Prim.Native.Nat.{_+_, _-_, _≤_}
+use Prim.Native.Nat.{_-_, _≤_}
 use native.Mathlib.Omega.{arith}
 use lib.ListN.{length}
 use Rattle.schedule.specs.Steps.{coming, NextAt}
@@ -26,40 +26,34 @@ turn-requires : tie.Need-turn-requires Inv-loop μ-loop
 turn-requires c κs =
     let a = c .before .before .before .before in
     let l = c .before .before .loop in
-    record { places = a .pre .0; next-whole = l .inv .1; next-at = l .inv .2; early = omega arith; short = a .pre .1 .short }
-
-add-work : tie.Need-add-work Inv-loop μ-loop
-add-work c =
-    let a = c .before .before .before .before .before .before in
-    let l = c .before .before .before .before .loop in
-    omega (arith, work-fits (a .pre .1) (l .inv .0) (turned-gap (a .pre .0) (c .before .turn .ensures)))
+    record { places = a .pre .0; next-whole = l .inv .1; next-at = l .inv .2; left-most = omega (arith, l .inv .0 .left-is, a .pre .1 .bounded (l .at) (l .inv .0 .so-far)); early = omega arith; short = a .pre .1 .short }
 
 sub-gap : tie.Need-sub-gap Inv-loop μ-loop
 sub-gap c = search needs
 
 add-if2 : tie.Need-add-if2 Inv-loop μ-loop
 add-if2 c =
-    let a = c .before .before .before .before .before .before .before .before in
-    let l = c .before .before .before .before .before .before .loop in
+    let a = c .before .before .before .before .before .before .before in
+    let l = c .before .before .before .before .before .loop in
     omega (arith, release-most (a .pre .1) (l .inv .0), a .pre .1)
 
 same-length : tie.Need-same-length Inv-loop μ-loop
-same-length c = c .before .before .before .before .before .before .before .before .loop .inv .0 .whole
+same-length c = c .before .before .before .before .before .before .before .loop .inv .0 .whole
 
 returns : tie.Need-returns Inv-loop μ-loop
 returns c =
-    let a = c .before .before .before .before .before .before .before .before .before .before in
-    let l = c .before .before .before .before .before .before .before .before .loop in
-    blocked (a .pre .1) (l .inv .0) (turned-gap (a .pre .0) (c .before .before .before .before .before .turn .ensures)) (c .before .before .if1 .taken) (c .if2 .taken)
+    let a = c .before .before .before .before .before .before .before .before .before in
+    let l = c .before .before .before .before .before .before .before .loop in
+    blocked (a .pre .1) (l .inv .0) (turned-gap (a .pre .0) (c .before .before .before .before .turn .ensures) (l .inv .0 .left-is)) (c .before .before .if1 .taken) (c .if2 .taken)
 
 sub-backlog : tie.Need-sub-backlog Inv-loop μ-loop
 sub-backlog c = search needs
 
 add-row : tie.Need-add-row Inv-loop μ-loop
 add-row c =
-    let a = c .before .before .before .before .before .before .before .before .before in
-    let l = c .before .before .before .before .before .before .before .loop in
-    omega (arith, l .inv .0 .so-far, a .pre .1 .short, work-fits (a .pre .1) (l .inv .0) (turned-gap (a .pre .0) (c .before .before .before .before .turn .ensures)))
+    let a = c .before .before .before .before .before .before .before .before in
+    let l = c .before .before .before .before .before .before .loop in
+    omega (arith, l .inv .0 .so-far, a .pre .1 .short, work-fits (a .pre .1) (l .inv .0) (turned-gap (a .pre .0) (c .before .before .before .turn .ensures) (l .inv .0 .left-is)))
 
 sub-row : tie.Need-sub-row Inv-loop μ-loop
 sub-row c = search needs
@@ -69,50 +63,50 @@ mul-row c = search needs
 
 slice-write-row : tie.Need-slice-write-row Inv-loop μ-loop
 slice-write-row c =
-    let a = c .before .before .before .before .before .before .before .before .before in
-    let l = c .before .before .before .before .before .before .before .loop in
-    place-fits (a .pre .1) (l .inv .0) (turned-gap (a .pre .0) (c .before .before .before .before .turn .ensures)) (omega (arith, c .before .if1 .left)) (c .if3 .taken)
+    let a = c .before .before .before .before .before .before .before .before in
+    let l = c .before .before .before .before .before .before .loop in
+    place-fits (a .pre .1) (l .inv .0) (turned-gap (a .pre .0) (c .before .before .before .turn .ensures) (l .inv .0 .left-is)) (omega (arith, c .before .if1 .left)) (c .if3 .taken)
 
 add-k : tie.Need-add-k Inv-loop μ-loop
 add-k c =
-    let a = c .before .before .before .before .before .before .before .before .before in
-    let l = c .before .before .before .before .before .before .before .loop in
+    let a = c .before .before .before .before .before .before .before .before in
+    let l = c .before .before .before .before .before .before .loop in
     omega (arith, l .inv .0 .few, a .pre .1)
 
 add-release : tie.Need-add-release Inv-loop μ-loop
 add-release c =
-    let a = c .before .before .before .before .before .before .before .before .before in
-    let l = c .before .before .before .before .before .before .before .loop in
+    let a = c .before .before .before .before .before .before .before .before in
+    let l = c .before .before .before .before .before .before .loop in
     omega (arith, release-most (a .pre .1) (l .inv .0), a .pre .1)
 
 add-rests : tie.Need-add-rests Inv-loop μ-loop
 add-rests c =
-    let a = c .before .before .before .before .before .before .before .before .before in
-    let l = c .before .before .before .before .before .before .before .loop in
-    omega (arith, l .inv .0 .rests-are, rests-most (coming (a .args .periods .now) (a .args .budgets .now) (a .args .size)) (l .at), l .inv .0 .so-far, c .before .before .before .before .turn .ensures, a .pre .1 .short)
+    let a = c .before .before .before .before .before .before .before .before in
+    let l = c .before .before .before .before .before .before .loop in
+    omega (arith, l .inv .0 .rests-are, rests-most (coming (a .args .periods .now) (a .args .budgets .now) (a .args .size)) (l .at), l .inv .0 .so-far, c .before .before .before .turn .ensures, a .pre .1 .short)
 
 loop-less : tie.Need-loop-less Inv-loop μ-loop
-loop-less c = omega (arith, c .before .before .before .before .before .turn .ensures)
+loop-less c = omega (arith, c .before .before .before .before .turn .ensures)
 
 loop-again : tie.Need-loop-again Inv-loop μ-loop
 loop-again c =
-    let a = c .before .before .before .before .before .before .before .before .before .before in
-    let l = c .before .before .before .before .before .before .before .before .loop in
-    let x = c .before .before .before .before .before .turn .ensures in
-    (waited (a .pre .1) (l .inv .0) (turned-gap (a .pre .0) x) (c .before .before .if1 .taken) (omega (arith, c .if2 .left)), x .next-whole, turned-next (a .pre .0) x)
-
-loop-less-2 : tie.Need-loop-less-2 Inv-loop μ-loop
-loop-less-2 c = omega (arith, c .before .before .before .before .turn .ensures)
-
-loop-again-2 : tie.Need-loop-again-2 Inv-loop μ-loop
-loop-again-2 c =
     let a = c .before .before .before .before .before .before .before .before .before in
     let l = c .before .before .before .before .before .before .before .loop in
     let x = c .before .before .before .before .turn .ensures in
-    let ends : l .backlog + c .before .before .before .before .turn .result .work ≤ c .before .before .before .before .turn .result .next - l .at = c .before .if1 .left in (
+    (waited (a .pre .1) (l .inv .0) (turned-gap (a .pre .0) x (l .inv .0 .left-is)) (c .before .before .if1 .taken) (omega (arith, c .if2 .left)), x .next-whole, turned-next (a .pre .0) x)
+
+loop-less-2 : tie.Need-loop-less-2 Inv-loop μ-loop
+loop-less-2 c = omega (arith, c .before .before .before .turn .ensures)
+
+loop-again-2 : tie.Need-loop-again-2 Inv-loop μ-loop
+loop-again-2 c =
+    let a = c .before .before .before .before .before .before .before .before in
+    let l = c .before .before .before .before .before .before .loop in
+    let x = c .before .before .before .turn .ensures in
+    let ends : c .before .before .before .turn .result .work ≤ c .before .before .before .turn .result .next - l .at = c .before .if1 .left in (
       ⊎-elim
-          (λ w. rw (w .1, w .2, w .3) (job-done (a .pre .1) (l .inv .0) (turned-gap (a .pre .0) x) ends (w .0 .taken)))
-          (λ w. rw (w .1, w .2, w .3) (rested-on (a .pre .1) (l .inv .0) (turned-gap (a .pre .0) x) ends (w .0 .left)))
+          (λ w. rw (w .1, w .2, w .3) (job-done (a .pre .1) (l .inv .0) (turned-gap (a .pre .0) x (l .inv .0 .left-is)) ends (w .0 .taken)))
+          (λ w. rw (w .1, w .2, w .3) (rested-on (a .pre .1) (l .inv .0) (turned-gap (a .pre .0) x (l .inv .0 .left-is)) ends (w .0 .left)))
           (c .if3 .came),
       x .next-whole,
       turned-next (a .pre .0) x,
@@ -132,7 +126,6 @@ walk-spec =
     μ-loop
     loop-holds
     turn-requires
-    add-work
     sub-gap
     add-if2
     same-length

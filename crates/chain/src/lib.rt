@@ -83,16 +83,15 @@ fn hand_over(
     ensures { λ r. ⌜ HandedOver (tasksIn (now (periods .entry)) (now (ranks .entry))) (rowsIn (now (starts .entry)) (now (counts .entry)) (now (table .entry))) p c k r ⌝ }
 {
     let release = k * periods[p];
+    let rank = ranks[p];
     let mut ready = release;
-    if ranks[p] < ranks[c] {
+    if rank < ranks[c] {
         ready += response_of(p, k, starts, counts, table);
     }
     let period = periods[c];
     let job = (ready + (period - 1)) / period;
-    HandOver {
-        job,
-        wait: job * period - release,
-    }
+    let wait = job * period - release;
+    HandOver { job, wait }
 }
 
 // The delay of a chain at job k of its first task: the wait for the next release, and then "the same rule asked of a shorter one".
@@ -142,10 +141,8 @@ fn worst_along(
         }
         k += 1;
     }
-    Figure {
-        ticks,
-        release: at * periods[p],
-    }
+    let release = at * periods[p];
+    Figure { ticks, release }
 }
 
 // R of task i.

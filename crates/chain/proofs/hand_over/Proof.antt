@@ -60,11 +60,11 @@ element-copy-out-release c = search needs
 mul-release-2 : tie.Need-mul-release-2
 mul-release-2 c = omega (arith, release-most (c .before .before))
 
+element-copy-out-rank : tie.Need-element-copy-out-rank
+element-copy-out-rank c = search needs
+
 element-copy-out-if1 : tie.Need-element-copy-out-if1
 element-copy-out-if1 c = search needs
-
-element-copy-out-if1-2 : tie.Need-element-copy-out-if1-2
-element-copy-out-if1-2 c = search needs
 
 response-of-requires : tie.Need-response-of-requires
 response-of-requires c κs = search needs
@@ -87,13 +87,13 @@ add-job c = omega (arith, ready-near (c .before .before), c .before .before .bef
 div-job : tie.Need-div-job
 div-job c = search needs
 
-mul-t16 : tie.Need-mul-t16
+mul-wait : tie.Need-mul-wait
 unfolding up
-mul-t16 c = omega (arith, next-near (c .before .before))
+mul-wait c = omega (arith, next-near (c .before .before))
 
-sub-t27 : tie.Need-sub-t27
+sub-wait : tie.Need-sub-wait
 unfolding up
-sub-t27 c = omega (arith, next-near (c .before .before))
+sub-wait c = omega (arith, next-near (c .before .before))
 
 returns : tie.Need-returns
 unfolding up
@@ -112,8 +112,8 @@ hand-over-spec =
     mul-release
     element-copy-out-release
     mul-release-2
+    element-copy-out-rank
     element-copy-out-if1
-    element-copy-out-if1-2
     response-of-requires
     add-ready
     mul-period
@@ -121,6 +121,6 @@ hand-over-spec =
     sub-job
     add-job
     div-job
-    mul-t16
-    sub-t27
+    mul-wait
+    sub-wait
     returns)

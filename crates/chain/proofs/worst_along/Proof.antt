@@ -72,14 +72,14 @@ loop-again c =
           (c .if1 .came),
     )
 
-mul-t15 : tie.Need-mul-t15 Inv-loop μ-loop
-mul-t15 c = omega (arith, entry (c .before .before .before .before .before .before) .row .known)
+mul-release : tie.Need-mul-release Inv-loop μ-loop
+mul-release c = omega (arith, entry (c .before .before .before .before .before .before) .row .known)
 
-element-copy-out-t18 : tie.Need-element-copy-out-t18 Inv-loop μ-loop
-element-copy-out-t18 c = entry (c .before .before .before .before .before .before) .row .known
+element-copy-out-release : tie.Need-element-copy-out-release Inv-loop μ-loop
+element-copy-out-release c = entry (c .before .before .before .before .before .before) .row .known
 
-mul-t22 : tie.Need-mul-t22 Inv-loop μ-loop
-mul-t22 c =
+mul-release-2 : tie.Need-mul-release-2 Inv-loop μ-loop
+mul-release-2 c =
     let s = c .before .before .before .before .before .before .before in
     let l = c .before .before .loop in
     omega (arith, release-most s (l .at) (omega (arith, l .inv .0, l .inv .1 .early)))
@@ -112,7 +112,7 @@ worst-along-spec =
     add-k
     loop-less
     loop-again
-    mul-t15
-    element-copy-out-t18
-    mul-t22
+    mul-release
+    element-copy-out-release
+    mul-release-2
     returns)

@@ -73,17 +73,23 @@ boundOf s room =
     after (responsesOf s room) λ totals.
     given (quickBound (tasksOf s) (chainOf s))
 
+-- "margin limit 0 to 4,000,000"; "The call without a limit uses 1,000 ticks."
+abbrev pub mostLimit : ℕ
+mostLimit = 4000000
+
+abbrev pub defaultLimit : ℕ
+defaultLimit = 1000
+
 -- 13: "the limit is over 4,000,000"
 unfoldable pub marginOf : Sheet → ℕ → ℕ → Answer ℤ
 marginOf s limit room =
     after (sizesOf s) λ size.
-    also (when (ltb 4000000 limit) 13)
+    also (when (ltb mostLimit limit) 13)
     (after (worstOf s room) λ figure.
     given (less limit (figure .ticks)))
 
--- "The call without a limit uses 1,000 ticks."
 abbrev pub defaultMarginOf : Sheet → ℕ → Answer ℤ
-defaultMarginOf s room = marginOf s 1000 room
+defaultMarginOf s room = marginOf s defaultLimit room
 
 -- Each call leaves the rows in the table, or what `responses` leaves with a refusal of that number.
 abbrev pub leaves : {A : Type 0} → Answer A → List Task → List ℕ → List ℕ

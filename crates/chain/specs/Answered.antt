@@ -1,25 +1,27 @@
 -- What an answer tells of its sheet: the sheet is taken, and the figure is the chain's and at most 3,100,000.
-use mathlib.Core.Path.{_≡_, refl}
+use mathlib.Core.Path.{_≡_, refl, sym}
+use mathlib.Core.Bool.{Bool, true, false, cond, false≢true}
 use mathlib.Core.List.{List}
-use Prim.Native.Nat.{ℕ, _-_, _≤_, _<_}
+use Prim.Native.Nat.{ℕ, _%_, _≤_, _<_}
 use native.Mathlib.Nat.{le-trans}
 use native.Mathlib.Omega.{arith}
-use lib.Dec.{ltb}
+use lib.Dec.{ltb, leb}
 use lib.IntN.{ℤ}
 use lib.ListN.{length, length-take, length-drop}
+use borrow.Author.Tests.{ltb-false}
 use Rattle.theory.specs.declared.Task.{Task}
 use Rattle.theory.specs.Ranges.{maximum-least}
-use Rattle.theory.specs.Model.{release}
-use Rattle.theory.specs.Responses.{response, jobs}
+use Rattle.theory.specs.Model.{period, release}
+use Rattle.theory.specs.Responses.{response, hyperperiod, jobs}
 use Rattle.theory.specs.Repetition.{response-period}
 use Rattle.theory.specs.Chain.{delay, worst}
 use Rattle.sheet.specs.declared.Sheet.{Sheet}
 use Rattle.sheet.specs.Answers.{Answer, given, refused, when, after}
-use Rattle.sheet.specs.Sound.{also-given}
+use Rattle.sheet.specs.Sound.{when-fine, also-given}
 use Rattle.schedule.specs.Answer.{tasksOf, sizesOf, responsesOf}
 use Rattle.chain.specs.declared.answer.Figure.{Figure}
-use Rattle.chain.specs.Answer.{chainOf, firstOf, restOf, delayAt, figureOf, quickBound, less, noRelease, delayOf, worstOf, boundOf, marginOf}
-use Rattle.chain.specs.Steps.{Taken}
+use Rattle.chain.specs.Answer.{chainOf, firstOf, restOf, delayAt, figureOf, quickBound, less, noRelease, mostLimit, delayOf, worstOf, boundOf, marginOf}
+use Rattle.chain.specs.Steps.{Taken, mostFigure}
 use Rattle.chain.specs.Largest.{along-chain, Small, delay-most}
 use Rattle.chain.specs.SheetLaws.{period-positive, period-most, chain-known}
 use Rattle.chain.specs.Cases.{filled-taken}
@@ -50,12 +52,25 @@ delay-given s at room e =
     let asked = also-given (when (noRelease (tasksOf s) (chainOf s) at) 12) _ (judged .2) in
     figure-given s room (delayAt (tasksOf s) (chainOf s) at) (asked .1)
 
+-- A delay is given at a multiple of the first task's period.
+pub delay-release : (s : Sheet) (at room : ℕ) {ticks : ℕ} → delayOf s at room ≡ given ticks → at % period (tasksOf s) (firstOf (chainOf s)) ≤ 0
+unfolding delayOf
+delay-release s at room e =
+    go (leb (hyperperiod (tasksOf s)) at) (when-fine _ 12 (also-given (when (noRelease (tasksOf s) (chainOf s) at) 12) _ (after-given (sizesOf s) _ e .2) .0))
+  where
+    T : ℕ
+    T = period (tasksOf s) (firstOf (chainOf s))
+
+    go : (b : Bool) → cond b true (ltb 0 (at % T)) ≡ false → at % T ≤ 0
+    go true q = absurd (false≢true (sym q))
+    go false q = ltb-false 0 (at % T) q
+
 pub margin-given : (s : Sheet) (limit room : ℕ) {z : ℤ} → marginOf s limit room ≡ given z
     → (w r : ℕ) × (worstOf s room ≡ given (record { ticks = w; release = r })) × (less limit w ≡ z)
 unfolding marginOf
 margin-given s limit room e =
     let judged = after-given (sizesOf s) _ e in
-    let asked = also-given (when (ltb 4000000 limit) 13) _ (judged .2) in
+    let asked = also-given (when (ltb mostLimit limit) 13) _ (judged .2) in
     let g = after-given (worstOf s room) _ (asked .1) in
     (g .0 .ticks, g .0 .release, g .1, cc (g .2))
 
@@ -72,10 +87,10 @@ module _ {s : Sheet} (taken : Taken s) where
   rest-few : length (restOf (chainOf s)) ≤ 15
   rest-few = omega (arith, length-drop 1 (chainOf s), length-take (s .length) (s .chain), taken .sound .length-most, taken .sound .count-most)
 
-  -- Sixteen tasks of 100,000 ticks: fifteen hand-overs of 200,000 and the last response.
-  pub worst-most : worst (tasksOf s) (response (tasksOf s)) (firstOf (chainOf s)) (restOf (chainOf s)) ≤ 3100000
+  -- Sixteen tasks: fifteen hand-overs and the last response.
+  pub worst-most : worst (tasksOf s) (response (tasksOf s)) (firstOf (chainOf s)) (restOf (chainOf s)) ≤ mostFigure
   unfolding worst
-  worst-most = maximum-least (jobs ts p) (λ k. delay ts (response ts) p rest (release ts p k)) 3100000 (λ k l. omega (
+  worst-most = maximum-least (jobs ts p) (λ k. delay ts (response ts) p rest (release ts p k)) mostFigure (λ k l. omega (
     arith,
     rest-few,
     delay-most ts (response ts) p rest (release ts p k) (along-chain (Small ts (response ts)) ts task-small p rest (chain-known (taken .sound))),

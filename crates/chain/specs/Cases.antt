@@ -20,7 +20,7 @@ use Rattle.schedule.specs.declared.answer.Size.{Size}
 use Rattle.schedule.specs.Answer.{tasksOf, sizesOf, responsesOf, rows, tableAfter}
 use Rattle.schedule.specs.Cases.{NumberMost, sizes-most}
 use Rattle.schedule.specs.Results.{responses-given, rows-length}
-use Rattle.chain.specs.Answer.{chainOf, firstOf, delayAt, less, delayOf, worstOf, marginOf, leaves}
+use Rattle.chain.specs.Answer.{chainOf, firstOf, delayAt, less, mostLimit, delayOf, worstOf, marginOf, leaves}
 use Rattle.chain.specs.Steps.{Taken, Holds}
 
 -- ---- the sheet and the table behind a filled answer
@@ -103,10 +103,10 @@ module _ (s : Sheet) (room : ℕ) {size : Size} (fits : sizesOf s ≡ given size
   unfolding delayOf
   delay-asked release h d = rw (fits, lt-leb (hyperperiod ts) release h, le-ltb 0 (release % T) d)
 
-  pub margin-over : (limit : ℕ) → 4000000 < limit → marginOf s limit room ≡ refused 13 []
+  pub margin-over : (limit : ℕ) → mostLimit < limit → marginOf s limit room ≡ refused 13 []
   unfolding marginOf
-  margin-over limit h = rw (fits, lt-ltb 4000000 limit h)
+  margin-over limit h = rw (fits, lt-ltb mostLimit limit h)
 
-  pub margin-asked : (limit : ℕ) → limit ≤ 4000000 → marginOf s limit room ≡ after (worstOf s room) (λ figure. given (less limit (figure .ticks)))
+  pub margin-asked : (limit : ℕ) → limit ≤ mostLimit → marginOf s limit room ≡ after (worstOf s room) (λ figure. given (less limit (figure .ticks)))
   unfolding marginOf
-  margin-asked limit h = rw (fits, le-ltb 4000000 limit h)
+  margin-asked limit h = rw (fits, le-ltb mostLimit limit h)

@@ -11,7 +11,7 @@ use Rattle.theory.specs.Ranges.{sum, sum-grows}
 use Rattle.theory.specs.Model.{none, period, rank}
 use Rattle.theory.specs.Responses.{hyperperiod, jobs, allJobs}
 use Rattle.sheet.specs.declared.Sheet.{Sheet}
-use Rattle.schedule.specs.Answer.{tasksOf}
+use Rattle.schedule.specs.Answer.{mostJobs, tasksOf}
 use Rattle.chain.specs.Steps.{Taken, Column, Gathered}
 use Rattle.chain.specs.SheetLaws.{tasks-length, period-at, rank-at}
 
@@ -44,7 +44,7 @@ module _ {s : Sheet} (taken : Taken s) (i : ℕ) (known : i < s .count) where
   pub jobs-at : {h : ℕ} → h ≡ hyperperiod (tasksOf s) → h / getD (s .tasks) i none .period ≡ jobs (tasksOf s) i
   jobs-at e = ap₂ _/_ e (sym (period-at (taken .sound) i known))
 
-  pub row-few : sum i (jobs (tasksOf s)) + jobs (tasksOf s) i ≤ 8192
+  pub row-few : sum i (jobs (tasksOf s)) + jobs (tasksOf s) i ≤ mostJobs
   row-few = omega (arith, row-within (tasksOf s) i (omega (arith, tasks-length (taken .sound))), taken .few)
 
   pub gathered-more : {periods ranks starts counts : List ℕ} (from count : ℕ) → Gathered (tasksOf s) i periods ranks starts counts

@@ -1,4 +1,4 @@
--- The largest figures: with periods and responses of at most 100,000 ticks no chain of sixteen tasks comes to more than 3,100,000.
+-- The largest figures: how long a hand-over and a chain can take where periods and responses are at most 100,000 ticks.
 use mathlib.Core.List.{List, [], _∷_}
 use mathlib.Core.Bool.{Bool, true, false, cond}
 use Prim.Native.Nat.{ℕ, suc, _+_, _-_, _*_, _/_, _≤_, _<_}
@@ -11,6 +11,7 @@ use Rattle.theory.specs.declared.Task.{Task}
 use Rattle.theory.specs.Model.{period}
 use Rattle.theory.specs.Chain.{Chain, outranks, Table, nextRelease, delay, common, bound}
 use Rattle.chain.specs.Answer.{firstOf, restOf}
+use Rattle.chain.specs.Steps.{mostPeriod, mostWait}
 
 -- ---- what holds of every task on a chain
 
@@ -33,23 +34,23 @@ along-chain P ts each p (c ∷ rest) l = (each p (l .0), along-chain P ts each c
 
 -- ---- figures
 
--- The period of task i, and its responses, are at most 100,000.
+-- The period of task i, and its responses, are at most the longest period.
 pub record Small (ts : List Task) (table : Table) (i : ℕ) : Type 0 where
   pub period-positive : 0 < period ts i
-  pub period-most : period ts i ≤ 100000
-  pub response-most : (k : ℕ) → table i k ≤ 100000
+  pub period-most : period ts i ≤ mostPeriod
+  pub response-most : (k : ℕ) → table i k ≤ mostPeriod
 
 module _ (ts : List Task) (table : Table) where
-  pub next-most : (p c r : ℕ) → Small ts table p → Small ts table c → nextRelease ts table p c r ≤ r + 200000
+  pub next-most : (p c r : ℕ) → Small ts table p → Small ts table c → nextRelease ts table p c r ≤ r + mostWait
   unfolding nextRelease
   next-most p c r sp sc = go (outranks ts c p)
     where
-      go : (b : Bool) → up (period ts c) (cond b (r + table p (r / period ts p)) r) ≤ r + 200000
+      go : (b : Bool) → up (period ts c) (cond b (r + table p (r / period ts p)) r) ≤ r + mostWait
       go true = omega (arith, up-near (period ts c) (r + table p (r / period ts p)) (sc .period-positive), sp .response-most (r / period ts p), sc .period-most)
       go false = omega (arith, up-near (period ts c) r (sc .period-positive), sc .period-most)
 
-  -- Each hand-over takes at most 200,000 ticks, and the last job 100,000.
-  pub delay-most : (p : ℕ) (rest : List ℕ) (r : ℕ) → Along (Small ts table) p rest → delay ts table p rest r ≤ 200000 * length rest + 100000
+  -- A wait for each hand-over, and the last job's response.
+  pub delay-most : (p : ℕ) (rest : List ℕ) (r : ℕ) → Along (Small ts table) p rest → delay ts table p rest r ≤ mostWait * length rest + mostPeriod
   unfolding delay
   delay-most p [] r s = omega (arith, s .response-most (r / period ts p))
   delay-most p (c ∷ rest) r s =
@@ -62,8 +63,8 @@ module _ (ts : List Task) (table : Table) where
 -- The same of the quick bound, for responses R of tasks.
 pub record SmallTask (ts : List Task) (R : ℕ → ℕ) (i : ℕ) : Type 0 where
   pub period-positive : 0 < period ts i
-  pub period-most : period ts i ≤ 100000
-  pub response-most : R i ≤ 100000
+  pub period-most : period ts i ≤ mostPeriod
+  pub response-most : R i ≤ mostPeriod
 
 module _ (ts : List Task) (R : ℕ → ℕ) where
   pub common-most : (p c : ℕ) → SmallTask ts R p → SmallTask ts R c → (0 < common ts p c) × (common ts p c ≤ period ts c)
@@ -72,14 +73,14 @@ module _ (ts : List Task) (R : ℕ → ℕ) where
     le-of-dvd (sc .period-positive) (gcd-divides-right (period ts p) (period ts c)),
   )
 
-  pub pair-most : (p c : ℕ) → SmallTask ts R p → SmallTask ts R c → (period ts c - common ts p c) + cond (outranks ts c p) (up (common ts p c) (R p)) 0 ≤ 200000
+  pub pair-most : (p c : ℕ) → SmallTask ts R p → SmallTask ts R c → (period ts c - common ts p c) + cond (outranks ts c p) (up (common ts p c) (R p)) 0 ≤ mostWait
   pair-most p c sp sc = go (outranks ts c p)
     where
-      go : (b : Bool) → (period ts c - common ts p c) + cond b (up (common ts p c) (R p)) 0 ≤ 200000
+      go : (b : Bool) → (period ts c - common ts p c) + cond b (up (common ts p c) (R p)) 0 ≤ mostWait
       go true = omega (arith, common-most p c sp sc, up-near (common ts p c) (R p) (common-most p c sp sc .0), sp .response-most, sc .period-most)
       go false = omega (arith, sc .period-most)
 
-  pub bound-most : (p : ℕ) (rest : List ℕ) → Along (SmallTask ts R) p rest → bound ts R p rest ≤ 200000 * length rest + 100000
+  pub bound-most : (p : ℕ) (rest : List ℕ) → Along (SmallTask ts R) p rest → bound ts R p rest ≤ mostWait * length rest + mostPeriod
   unfolding bound
   bound-most p [] s = omega (arith, s .response-most)
   bound-most p (c ∷ rest) s = omega (arith, pair-most p c (s .0) (along-first (SmallTask ts R) c rest (s .1)), bound-most c rest (s .1))

@@ -15,7 +15,7 @@ use Rattle.theory.specs.Repetition.{response-jobs, response-period}
 use Rattle.theory.specs.Chain.{Chain, delay, worst, worstRelease, bound}
 use Rattle.theory.specs.ChainLaws.{chain-head}
 use Rattle.sheet.specs.declared.Sheet.{Sheet}
-use Rattle.schedule.specs.Answer.{tasksOf}
+use Rattle.schedule.specs.Answer.{mostTicks, tasksOf}
 use Rattle.chain.specs.declared.answer.Figure.{Figure}
 use Rattle.chain.specs.Answer.{chainOf, firstOf, restOf, delayAt, figureOf, quickBound}
 use Rattle.chain.specs.Steps.{Taken, Holds, tasksIn, rowsIn, greatestIn, delayIn, Entry, Path, Greatest, Gathered}
@@ -94,14 +94,14 @@ module _ {s : Sheet} (taken : Taken s) {table : List ℕ} (holds : Holds (tasksO
   pub plan-path : 0 < length (chainOf s) → Path periods starts counts table (chainOf s)
   plan-path some = record { some = some; entry = λ j m. entry (getD (chainOf s) j 0) (entry-listed (taken .sound) j m) }
 
-  pub plan-first : getD counts p 0 * getD periods p 0 ≤ 1000000
+  pub plan-first : getD counts p 0 * getD periods p 0 ≤ mostTicks
   plan-first = rw (gathered .counts-are .holds p (counted p known), gathered .periods-are .holds p (counted p known))
       (omega (arith, jobs-whole (taken .accepted .proper) p known, taken .short))
 
   pub plan-release : (k : ℕ) → release us p k ≡ release ts p k
   plan-release k = ap (λ T. k * T) (period-is p known)
 
-  pub plan-early : (k : ℕ) → k < jobs ts p → release ts p k ≤ 1000000
+  pub plan-early : (k : ℕ) → k < jobs ts p → release ts p k ≤ mostTicks
   plan-early k l = omega (arith, jobs-released (taken .accepted .proper) p known k l, taken .short)
 
   -- and gives the sheet's delays,

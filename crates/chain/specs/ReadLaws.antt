@@ -14,7 +14,7 @@ use Rattle.theory.specs.declared.Task.{Task}
 use Rattle.theory.specs.Ranges.{maximum, maximum-least}
 use Rattle.theory.specs.Model.{none, period, release, rank}
 use Rattle.theory.specs.Chain.{nextRelease}
-use Rattle.chain.specs.Steps.{tasksIn, rowsIn, greatestIn, pairBound, Row, Entry}
+use Rattle.chain.specs.Steps.{mostPeriod, tasksIn, rowsIn, greatestIn, pairBound, Row, Entry}
 use Rattle.chain.specs.GreatestLaws.{maximum-same}
 
 module _ (periods ranks : List ℕ) (i : ℕ) (known : i < 16) where
@@ -35,11 +35,11 @@ module _ {starts counts table : List ℕ} {i : ℕ} (row : Row starts counts tab
   pub row-place : k % getD counts i 0 < getD counts i 0
   row-place = mod-lt k (row .some)
 
-  pub row-most : rowsIn starts counts table i k ≤ 100000
+  pub row-most : rowsIn starts counts table i k ≤ mostPeriod
   row-most = row .response-most (k % getD counts i 0) row-place
 
-pub greatest-most : {starts counts table : List ℕ} {i : ℕ} → Row starts counts table i → greatestIn starts counts table i ≤ 100000
-greatest-most {counts = counts} {i = i} row = maximum-least (getD counts i 0) _ 100000 (λ k l. row-most row k)
+pub greatest-most : {starts counts table : List ℕ} {i : ℕ} → Row starts counts table i → greatestIn starts counts table i ≤ mostPeriod
+greatest-most {counts = counts} {i = i} row = maximum-least (getD counts i 0) _ mostPeriod (λ k l. row-most row k)
 
 -- The part of the table that is a row holds its responses.
 module _ {starts counts table : List ℕ} {i : ℕ} (row : Row starts counts table i) where

@@ -21,8 +21,8 @@ use Rattle.schedule.specs.Answer.{tasksOf}
 use Rattle.chain.specs.Answer.{chainOf, firstOf, restOf, delayOf, worstOf, boundOf, marginOf}
 use Rattle.chain.specs.Steps.{Taken}
 use Rattle.chain.specs.MarginLaws.{kept-within, below-over}
-use Rattle.chain.specs.SheetLaws.{chain-known}
-use Rattle.chain.specs.Answered.{delay-given, worst-given, bound-given, margin-given}
+use Rattle.chain.specs.SheetLaws.{chain-known, job-release}
+use Rattle.chain.specs.Answered.{delay-release, delay-given, worst-given, bound-given, margin-given}
 
 -- ---- the words
 
@@ -40,10 +40,18 @@ DelayAnswers s at room t = delayOf s at room ≡ given t
 abbrev pub MarginAnswers : Sheet → ℕ → ℕ → ℤ → Type 0
 MarginAnswers s limit room z = marginOf s limit room ≡ given z
 
--- The path of a reading from job k of the chain's first task exists in the run, and ends no later than `ticks` after the job's release.
+-- The release of job k of the chain's first task.
+abbrev pub firstRelease : Sheet → ℕ → ℕ
+firstRelease s k = release (tasksOf s) (firstOf (chainOf s)) k
+
+-- In a run the path of a reading along the sheet's chain, from job k of its first task, ends at f.
+abbrev pub ChainPath : Sheet → Demands → Run → ℕ → ℕ → Type 0
+ChainPath s d run k f = PathEnds d run (firstOf (chainOf s)) (restOf (chainOf s)) k f
+
+-- That path exists, and ends no later than `ticks` after the job's release.
 pub record PathWithin (s : Sheet) (d : Demands) (run : Run) (k ticks : ℕ) : Type 0 where
-  pub exists : (f : ℕ) × PathEnds d run (firstOf (chainOf s)) (restOf (chainOf s)) k f
-  pub ends : (f : ℕ) → PathEnds d run (firstOf (chainOf s)) (restOf (chainOf s)) k f → f ≤ release (tasksOf s) (firstOf (chainOf s)) k + ticks
+  pub exists : (f : ℕ) × ChainPath s d run k f
+  pub ends : (f : ℕ) → ChainPath s d run k f → f ≤ firstRelease s k + ticks
 
 -- Each task on the sheet's chain outranks the one before it.
 abbrev pub RanksRise : Sheet → Type 0
@@ -108,16 +116,6 @@ worst-within-bound s room w r answer room′ b answer′ =
     let g = worst-given s room answer in
     omega (arith, ap (λ f. f .ticks) (g .1), bound-given s room′ answer′ .1, demand.worst-within-bound (tasksOf s) (g .0 .accepted) (firstOf (chainOf s)) (restOf (chainOf s)) (chain (g .0)))
 
--- Where ranks rise along the chain, the full-budget schedule reaches it: the path from the job released at r takes exactly w.
-pub worst-is-reached :
-    (s : Sheet) (room w r : ℕ) (answer : WorstAnswers s room w r) (rising : RanksRise s)
-    (run : Run) (schedule : Schedule (tasksOf s) (full (tasksOf s)) run)
-    → PathEnds (full (tasksOf s)) run (firstOf (chainOf s)) (restOf (chainOf s)) (r / period (tasksOf s) (firstOf (chainOf s))) (r + w)
-worst-is-reached s room w r answer rising run schedule =
-    let g = worst-given s room answer in
-    subst (λ f. PathEnds (full (tasksOf s)) run (firstOf (chainOf s)) (restOf (chainOf s)) (f .release / period (tasksOf s) (firstOf (chainOf s))) (f .release + f .ticks)) (g .1)
-    (demand.worst-reached (tasksOf s) (g .0 .accepted) (firstOf (chainOf s)) (restOf (chainOf s)) (chain (g .0)) rising run schedule)
-
 -- w is the greatest delay over all releases of the first task, not only those before H, and r the smallest release that gives it.
 pub worst-is-greatest :
     (s : Sheet) (room w r : ℕ) (answer : WorstAnswers s room w r)
@@ -126,6 +124,19 @@ worst-is-greatest s room w r answer =
     let g = worst-given s room answer in
     subst (λ f. GreatestDelay (tasksOf s) (firstOf (chainOf s)) (restOf (chainOf s)) (f .ticks) (f .release)) (g .1)
     (demand.worst-of-all (tasksOf s) (g .0 .accepted) (firstOf (chainOf s)) (restOf (chainOf s)) (chain (g .0)))
+
+-- Where ranks rise along the chain, the full-budget schedule reaches it: the path from the job released at r takes exactly w.
+pub worst-is-reached :
+    (s : Sheet) (room w r : ℕ) (answer : WorstAnswers s room w r) (rising : RanksRise s)
+    (run : Run) (schedule : Schedule (tasksOf s) (full (tasksOf s)) run)
+    → (k : ℕ) × (firstRelease s k ≡ r) × ChainPath s (full (tasksOf s)) run k (r + w)
+worst-is-reached s room w r answer rising run schedule =
+    let g = worst-given s room answer in (
+      r / period (tasksOf s) (firstOf (chainOf s)),
+      worst-is-greatest s room w r answer .first-task,
+      subst (λ f. ChainPath s (full (tasksOf s)) run (f .release / period (tasksOf s) (firstOf (chainOf s))) (f .release + f .ticks)) (g .1)
+          (demand.worst-reached (tasksOf s) (g .0 .accepted) (firstOf (chainOf s)) (restOf (chainOf s)) (chain (g .0)) rising run schedule),
+    )
 
 -- ---- `bound`
 
@@ -146,22 +157,27 @@ no-schedule-exceeds-bound s room b answer d within run schedule k =
 pub no-schedule-exceeds-delay :
     (s : Sheet) (at room t : ℕ) (answer : DelayAnswers s at room t)
     (d : Demands) (within : Within (tasksOf s) d) (run : Run) (schedule : Schedule (tasksOf s) d run)
-    (k : ℕ) (released : release (tasksOf s) (firstOf (chainOf s)) k % hyperperiod (tasksOf s) ≡ at)
+    (k : ℕ) (released : firstRelease s k % hyperperiod (tasksOf s) ≡ at)
     → PathWithin s d run k t
 no-schedule-exceeds-delay s at room t answer d within run schedule k released =
     let g = delay-given s at room answer in
-    subst (PathWithin s d run k) (delay-modulo (g .0) (release (tasksOf s) (firstOf (chainOf s)) k) at released ∙ g .1) (path-delay (g .0) within schedule k)
+    subst (PathWithin s d run k) (delay-modulo (g .0) (firstRelease s k) at released ∙ g .1) (path-delay (g .0) within schedule k)
+
+-- There is such a job: the release is one of the first task's.
+pub delay-has-job : (s : Sheet) (at room t : ℕ) (answer : DelayAnswers s at room t) → (k : ℕ) × (firstRelease s k ≡ at)
+delay-has-job s at room t answer =
+    (at / period (tasksOf s) (firstOf (chainOf s)), job-release (tasksOf s) (firstOf (chainOf s)) at (delay-release s at room answer))
 
 -- Where ranks rise along the chain, the full-budget schedule's path from that job takes exactly t.
 pub delay-is-reached :
     (s : Sheet) (at room t : ℕ) (answer : DelayAnswers s at room t) (rising : RanksRise s)
     (run : Run) (schedule : Schedule (tasksOf s) (full (tasksOf s)) run)
-    (k : ℕ) (released : release (tasksOf s) (firstOf (chainOf s)) k % hyperperiod (tasksOf s) ≡ at)
-    → PathEnds (full (tasksOf s)) run (firstOf (chainOf s)) (restOf (chainOf s)) k (release (tasksOf s) (firstOf (chainOf s)) k + t)
+    (k : ℕ) (released : firstRelease s k % hyperperiod (tasksOf s) ≡ at)
+    → ChainPath s (full (tasksOf s)) run k (firstRelease s k + t)
 delay-is-reached s at room t answer rising run schedule k released =
     let g = delay-given s at room answer in
-    subst (λ x. PathEnds (full (tasksOf s)) run (firstOf (chainOf s)) (restOf (chainOf s)) k (release (tasksOf s) (firstOf (chainOf s)) k + x))
-    (delay-modulo (g .0) (release (tasksOf s) (firstOf (chainOf s)) k) at released ∙ g .1)
+    subst (λ x. ChainPath s (full (tasksOf s)) run k (firstRelease s k + x))
+    (delay-modulo (g .0) (firstRelease s k) at released ∙ g .1)
     (path-exact (g .0 .accepted) schedule (firstOf (chainOf s)) (restOf (chainOf s)) (chain (g .0)) rising k)
 
 -- ---- `margin`
@@ -179,11 +195,8 @@ margin-keeps s limit room z answer kept d within run schedule k =
 pub margin-exceeded :
     (s : Sheet) (limit room : ℕ) (z : ℤ) (answer : MarginAnswers s limit room z) (below : z <ℤ pos 0) (rising : RanksRise s)
     (run : Run) (schedule : Schedule (tasksOf s) (full (tasksOf s)) run)
-    → (k f : ℕ) × PathEnds (full (tasksOf s)) run (firstOf (chainOf s)) (restOf (chainOf s)) k f × (release (tasksOf s) (firstOf (chainOf s)) k + limit < f)
+    → (k f : ℕ) × ChainPath s (full (tasksOf s)) run k f × (firstRelease s k + limit < f)
 margin-exceeded s limit room z answer below rising run schedule =
-    let g = margin-given s limit room answer in (
-      g .1 / period (tasksOf s) (firstOf (chainOf s)),
-      g .1 + g .0,
-      worst-is-reached s room (g .0) (g .1) (g .2) rising run schedule,
-      omega (arith, worst-is-greatest s room (g .0) (g .1) (g .2) .first-task, below-over limit (g .0) (subst (λ x. x <ℤ pos 0) (sym (g .3)) below)),
-    )
+    let g = margin-given s limit room answer in
+    let x = worst-is-reached s room (g .0) (g .1) (g .2) rising run schedule in
+    (x .0, g .1 + g .0, x .2, omega (arith, x .1, below-over limit (g .0) (subst (λ y. y <ℤ pos 0) (sym (g .3)) below)))

@@ -18,6 +18,7 @@ use Rattle.sheet.specs.declared.Sheet.{Sheet}
 use Rattle.sheet.specs.Sound.{Sound}
 use Rattle.schedule.specs.Answer.{tasksOf}
 use Rattle.chain.specs.Answer.{chainOf, firstOf, restOf}
+use Rattle.chain.specs.Steps.{mostPeriod}
 
 -- Entries that are tasks, and of which no two neighbours are the same, are a chain; with no entry it is that of task 0.
 entries-chain : (ts : List Task) (chain : List ℕ) → 0 < length ts
@@ -61,7 +62,7 @@ module _ {s : Sheet} (sound : Sound s) where
   pub period-positive : (i : ℕ) → i < length (tasksOf s) → 0 < period (tasksOf s) i
   period-positive i l = let m : i < s .count = omega (arith, tasks-length) in omega (arith, period-at i m, sound .period-least i m)
 
-  pub period-most : (i : ℕ) → i < length (tasksOf s) → period (tasksOf s) i ≤ 100000
+  pub period-most : (i : ℕ) → i < length (tasksOf s) → period (tasksOf s) i ≤ mostPeriod
   period-most i l = let m : i < s .count = omega (arith, tasks-length) in omega (arith, period-at i m, sound .period-most i m)
 
   -- The chain's entries

@@ -16,7 +16,7 @@ use Rattle.sheet.specs.declared.Sheet.{Sheet}
 use Rattle.sheet.specs.declared.Refusal.{Refusal}
 use Rattle.sheet.specs.declared.Refusal.the-variants.{Number}
 use Rattle.sheet.specs.Sound.{Sound}
-use Rattle.schedule.specs.Answer.{tasksOf, rows}
+use Rattle.schedule.specs.Answer.{mostTicks, mostJobs, tasksOf, rows}
 use Rattle.schedule.specs.declared.answer.Responses.{Responses}
 use Rattle.schedule.specs.declared.answer.Responses.the-variants.{Table as Filled, No}
 use Rattle.chain.specs.declared.answer.Figure.{Figure}
@@ -25,14 +25,30 @@ use Rattle.chain.specs.declared.answer.Worst.the-variants.{Is, No as NoW
 use Rattle.chain.specs.declared.answer.HandOver.{HandOver}
 use Rattle.chain.specs.Answer.{firstOf, restOf}
 
+-- ---- the largest figures
+
+-- A period, and so a response, is at most 100,000; then a hand-over takes at most 200,000 ticks, a chain of sixteen tasks at most
+-- 3,100,000, and from a release before H no release on its way is later than 4,000,000.
+abbrev pub mostPeriod : ℕ
+mostPeriod = 100000
+
+abbrev pub mostWait : ℕ
+mostWait = 200000
+
+abbrev pub mostFigure : ℕ
+mostFigure = 3100000
+
+abbrev pub mostRelease : ℕ
+mostRelease = 4000000
+
 -- ---- a sheet that is answered
 
 -- It is judged fine, within the limits, and no task is late.
 pub record Taken (s : Sheet) : Type 0 where
   pub sound : Sound s
   pub accepted : Accepted (tasksOf s)
-  pub short : hyperperiod (tasksOf s) ≤ 1000000
-  pub few : allJobs (tasksOf s) ≤ 8192
+  pub short : hyperperiod (tasksOf s) ≤ mostTicks
+  pub few : allJobs (tasksOf s) ≤ mostJobs
 
 -- The table holds the rows of the tasks.
 pub record Holds (ts : List Task) (table : List ℕ) : Type 0 where
@@ -62,18 +78,18 @@ pub record HandedOver (ts : List Task) (table : Table) (p c k : ℕ) (next : Han
   pub job-is : release ts c (next .job) ≡ nextRelease ts table p c (release ts p k)
   pub wait-is : next .wait ≡ nextRelease ts table p c (release ts p k) - release ts p k
 
--- The row of task i is in the table, and no response in it is over 100,000.
+-- The row of task i is in the table, and no response in it is over the longest period.
 pub record Row (starts counts table : List ℕ) (i : ℕ) : Type 0 where
   pub known : i < 16
   pub some : 0 < getD counts i 0
-  pub few : getD starts i 0 + getD counts i 0 ≤ 8192
+  pub few : getD starts i 0 + getD counts i 0 ≤ mostJobs
   pub within : getD starts i 0 + getD counts i 0 ≤ length table
-  pub response-most : (k : ℕ) → k < getD counts i 0 → getD table (getD starts i 0 + k) 0 ≤ 100000
+  pub response-most : (k : ℕ) → k < getD counts i 0 → getD table (getD starts i 0 + k) 0 ≤ mostPeriod
 
 -- Its period is within its limits too.
 pub record Entry (periods starts counts table : List ℕ) (i : ℕ) : Type 0 where
   pub period-positive : 0 < getD periods i 0
-  pub period-most : getD periods i 0 ≤ 100000
+  pub period-most : getD periods i 0 ≤ mostPeriod
   pub row : Row starts counts table i
 
 -- A chain of such tasks.

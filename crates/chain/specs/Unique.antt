@@ -15,7 +15,7 @@ use Rattle.chain.specs.declared.answer.Bound.{Bound}
 use Rattle.chain.specs.declared.answer.Bound.the-variants.{Ticks as BoundTicks, No as NoBound}
 use Rattle.chain.specs.declared.answer.Margin.{Margin}
 use Rattle.chain.specs.declared.answer.Margin.the-variants.{Ticks as MarginTicks, No as NoMargin}
-use Rattle.chain.specs.Answer.{delayOf, worstOf, boundOf, marginOf, defaultMarginOf, toldDelay, toldWorst, toldBound, toldMargin}
+use Rattle.chain.specs.Answer.{delayOf, worstOf, boundOf, marginOf, defaultLimit, defaultMarginOf, toldDelay, toldWorst, toldBound, toldMargin}
 use Rattle.chain.specs.Cases.{Ended}
 
 -- Document 01's answer tells the case of the enum.
@@ -65,7 +65,7 @@ module _ (s : Sheet) (old table table′ : List ℕ) where
 
   pub default-margin-unique : (x y : Margin) → Ended (defaultMarginOf s (length old)) (tasksOf s) old (toldMargin x) table
       → Ended (defaultMarginOf s (length old)) (tasksOf s) old (toldMargin y) table′ → (x ≡ y) × (table ≡ table′)
-  default-margin-unique = margin-unique 1000
+  default-margin-unique = margin-unique defaultLimit
 
 pub magnitude-unique : (z : ℤ) (x y : ℕ) → x ≡ natAbs z → y ≡ natAbs z → x ≡ y
 magnitude-unique z x y p q = p ∙ sym q

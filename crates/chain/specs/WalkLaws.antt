@@ -11,7 +11,7 @@ use Rattle.theory.specs.Model.{period, release}
 use Rattle.theory.specs.Chain.{Table, delay, bound}
 use Rattle.chain.specs.declared.answer.HandOver.{HandOver}
 use Rattle.chain.specs.Answer.{firstOf, restOf}
-use Rattle.chain.specs.Steps.{tasksIn, rowsIn, greatestIn, pairBound, HandedOver, Entry, Path}
+use Rattle.chain.specs.Steps.{mostWait, tasksIn, rowsIn, greatestIn, pairBound, HandedOver, Entry, Path}
 use Rattle.chain.specs.ReadLaws.{period-in, row-most, greatest-most}
 use Rattle.chain.specs.Largest.{along-entries, Small, SmallTask, delay-most, bound-most}
 
@@ -72,7 +72,7 @@ module _ {periods starts counts table : List ℕ} (ranks : List ℕ) where
   }
 
   pub path-delay : {chain : List ℕ} → Path periods starts counts table chain → (r : ℕ)
-      → delay (tasksIn periods ranks) (rowsIn starts counts table) (firstOf chain) (restOf chain) r ≤ 200000 * length chain
+      → delay (tasksIn periods ranks) (rowsIn starts counts table) (firstOf chain) (restOf chain) r ≤ mostWait * length chain
   path-delay {chain} path r =
       omega (
         arith,
@@ -83,7 +83,7 @@ module _ {periods starts counts table : List ℕ} (ranks : List ℕ) where
       )
 
   pub path-bound : {chain : List ℕ} → Path periods starts counts table chain
-      → bound (tasksIn periods ranks) (greatestIn starts counts table) (firstOf chain) (restOf chain) ≤ 200000 * length chain
+      → bound (tasksIn periods ranks) (greatestIn starts counts table) (firstOf chain) (restOf chain) ≤ mostWait * length chain
   path-bound {chain} path =
       omega (
         arith,

@@ -22,10 +22,10 @@ ghost use Rattle.theory.specs.Responses.{hyperperiod, jobs};
 ghost use Rattle.theory.specs.Model.{period, release};
 ghost use Rattle.theory.specs.Chain.{bound};
 ghost use Rattle.sheet.specs.Sound.{Sound};
-ghost use Rattle.schedule.specs.Answer.{tasksOf};
+ghost use Rattle.schedule.specs.Answer.{mostTicks, tasksOf};
 ghost use Rattle.schedule.specs.Steps.{refusalOf};
-ghost use Rattle.chain.specs.Answer.{chainOf, firstOf, restOf, delayAt, figureOf, quickBound, less, delayOf, worstOf, boundOf, marginOf, defaultMarginOf, leaves, toldDelay, toldWorst, toldBound, toldMargin};
-ghost use Rattle.chain.specs.Steps.{Taken, Holds, tasksIn, rowsIn, greatestIn, delayIn, HandedOver, Row, Entry, Path, Greatest, pairBound, Gathered, responsesRefusal, worstRefusal};
+ghost use Rattle.chain.specs.Answer.{chainOf, firstOf, restOf, delayAt, figureOf, quickBound, less, mostLimit, delayOf, worstOf, boundOf, marginOf, defaultMarginOf, leaves, toldDelay, toldWorst, toldBound, toldMargin};
+ghost use Rattle.chain.specs.Steps.{mostWait, mostFigure, mostRelease, Taken, Holds, tasksIn, rowsIn, greatestIn, delayIn, HandedOver, Row, Entry, Path, Greatest, pairBound, Gathered, responsesRefusal, worstRefusal};
 
 // "margin limit 0 to 4,000,000"
 const MOST_LIMIT: u32 = 4000000;
@@ -41,7 +41,9 @@ fn gather(
     starts: &mut [u32; 16],
     counts: &mut [u32; 16],
 )
-    requires { ⌜ Taken s ⌝ ∗ ⌜ h ≡ hyperperiod (tasksOf s) ⌝ ∗ ⌜ (length (now periods) ≡ 16) × (length (now ranks) ≡ 16) × (length (now starts) ≡ 16) × (length (now counts) ≡ 16) ⌝ }
+    requires { ⌜ Taken s ⌝ }
+    requires { ⌜ h ≡ hyperperiod (tasksOf s) ⌝ }
+    requires { ⌜ (length (now periods) ≡ 16) × (length (now ranks) ≡ 16) × (length (now starts) ≡ 16) × (length (now counts) ≡ 16) ⌝ }
     ensures { λ _. ⌜ Gathered (tasksOf s) (s .count) (now (periods .exit)) (now (ranks .exit)) (now (starts .exit)) (now (counts .exit)) ⌝ }
 {
     let n = s.count as usize;
@@ -79,7 +81,9 @@ fn hand_over(
     counts: &[u32; 16],
     table: &[u32],
 ) -> HandOver
-    requires { ⌜ Entry (now periods) (now starts) (now counts) (now table) p ⌝ ∗ ⌜ Entry (now periods) (now starts) (now counts) (now table) c ⌝ ∗ ⌜ release (tasksIn (now periods) (now ranks)) p k ≤ 4000000 ⌝ }
+    requires { ⌜ Entry (now periods) (now starts) (now counts) (now table) p ⌝ }
+    requires { ⌜ Entry (now periods) (now starts) (now counts) (now table) c ⌝ }
+    requires { ⌜ release (tasksIn (now periods) (now ranks)) p k ≤ mostRelease ⌝ }
     ensures { λ r. ⌜ HandedOver (tasksIn (now (periods .entry)) (now (ranks .entry))) (rowsIn (now (starts .entry)) (now (counts .entry)) (now (table .entry))) p c k r ⌝ }
 {
     let release = k * periods[p];
@@ -104,7 +108,8 @@ fn walk(
     counts: &[u32; 16],
     table: &[u32],
 ) -> u32
-    requires { ⌜ Path (now periods) (now starts) (now counts) (now table) (now chain) ⌝ ∗ ⌜ release (tasksIn (now periods) (now ranks)) (firstOf (now chain)) k + 200000 * length (now chain) ≤ 4200000 ⌝ }
+    requires { ⌜ Path (now periods) (now starts) (now counts) (now table) (now chain) ⌝ }
+    requires { ⌜ release (tasksIn (now periods) (now ranks)) (firstOf (now chain)) k + mostWait * length (now chain) ≤ mostRelease + mostWait ⌝ }
     ensures { λ r. ⌜ r ≡ delayIn (now (periods .entry)) (now (ranks .entry)) (now (starts .entry)) (now (counts .entry)) (now (table .entry)) (now (chain .entry)) k ⌝ }
 {
     let p = chain[0] as usize;
@@ -125,7 +130,8 @@ fn worst_along(
     counts: &[u32; 16],
     table: &[u32],
 ) -> Figure
-    requires { ⌜ Path (now periods) (now starts) (now counts) (now table) (now chain) ⌝ ∗ ⌜ (length (now chain) ≤ 16) × (getD (now counts) (firstOf (now chain)) 0 * getD (now periods) (firstOf (now chain)) 0 ≤ 1000000) ⌝ }
+    requires { ⌜ Path (now periods) (now starts) (now counts) (now table) (now chain) ⌝ }
+    requires { ⌜ (length (now chain) ≤ 16) × (getD (now counts) (firstOf (now chain)) 0 * getD (now periods) (firstOf (now chain)) 0 ≤ mostTicks) ⌝ }
     ensures { λ r. ⌜ Greatest (getD (now (counts .entry)) (firstOf (now (chain .entry))) 0) (getD (now (periods .entry)) (firstOf (now (chain .entry))) 0) (delayIn (now (periods .entry)) (now (ranks .entry)) (now (starts .entry)) (now (counts .entry)) (now (table .entry)) (now (chain .entry))) r ⌝ }
 {
     let p = chain[0] as usize;
@@ -165,7 +171,8 @@ fn pair_bound(
     counts: &[u32; 16],
     table: &[u32],
 ) -> u32
-    requires { ⌜ Entry (now periods) (now starts) (now counts) (now table) p ⌝ ∗ ⌜ Entry (now periods) (now starts) (now counts) (now table) c ⌝ }
+    requires { ⌜ Entry (now periods) (now starts) (now counts) (now table) p ⌝ }
+    requires { ⌜ Entry (now periods) (now starts) (now counts) (now table) c ⌝ }
     ensures { λ r. ⌜ r ≡ pairBound (tasksIn (now (periods .entry)) (now (ranks .entry))) (greatestIn (now (starts .entry)) (now (counts .entry)) (now (table .entry))) p c ⌝ }
 {
     let g = arith::gcd(periods[p], periods[c]);
@@ -185,7 +192,8 @@ fn bound_along(
     counts: &[u32; 16],
     table: &[u32],
 ) -> u32
-    requires { ⌜ Path (now periods) (now starts) (now counts) (now table) (now chain) ⌝ ∗ ⌜ length (now chain) ≤ 16 ⌝ }
+    requires { ⌜ Path (now periods) (now starts) (now counts) (now table) (now chain) ⌝ }
+    requires { ⌜ length (now chain) ≤ 16 ⌝ }
     ensures { λ r. ⌜ r ≡ bound (tasksIn (now (periods .entry)) (now (ranks .entry))) (greatestIn (now (starts .entry)) (now (counts .entry)) (now (table .entry))) (firstOf (now (chain .entry))) (restOf (now (chain .entry))) ⌝ }
 {
     let p = chain[0] as usize;
@@ -199,7 +207,10 @@ fn bound_along(
 
 // The delay of the sheet's chain at job k of its first task.
 fn delay_in(s: Sheet, h: u32, k: u32, table: &[u32]) -> u32
-    requires { ⌜ Taken s ⌝ ∗ ⌜ h ≡ hyperperiod (tasksOf s) ⌝ ∗ ⌜ Holds (tasksOf s) (now table) ⌝ ∗ ⌜ k < jobs (tasksOf s) (firstOf (chainOf s)) ⌝ }
+    requires { ⌜ Taken s ⌝ }
+    requires { ⌜ h ≡ hyperperiod (tasksOf s) ⌝ }
+    requires { ⌜ Holds (tasksOf s) (now table) ⌝ }
+    requires { ⌜ k < jobs (tasksOf s) (firstOf (chainOf s)) ⌝ }
     ensures { λ r. ⌜ r ≡ delayAt (tasksOf s) (chainOf s) (release (tasksOf s) (firstOf (chainOf s)) k) ⌝ }
 {
     let mut periods = [0u32; 16];
@@ -214,7 +225,9 @@ fn delay_in(s: Sheet, h: u32, k: u32, table: &[u32]) -> u32
 
 // The worst figure of the sheet's chain.
 fn worst_in(s: Sheet, h: u32, table: &[u32]) -> Figure
-    requires { ⌜ Taken s ⌝ ∗ ⌜ h ≡ hyperperiod (tasksOf s) ⌝ ∗ ⌜ Holds (tasksOf s) (now table) ⌝ }
+    requires { ⌜ Taken s ⌝ }
+    requires { ⌜ h ≡ hyperperiod (tasksOf s) ⌝ }
+    requires { ⌜ Holds (tasksOf s) (now table) ⌝ }
     ensures { λ r. ⌜ r ≡ figureOf (tasksOf s) (chainOf s) ⌝ }
 {
     let mut periods = [0u32; 16];
@@ -229,7 +242,9 @@ fn worst_in(s: Sheet, h: u32, table: &[u32]) -> Figure
 
 // The quick bound of the sheet's chain.
 fn bound_in(s: Sheet, h: u32, table: &[u32]) -> u32
-    requires { ⌜ Taken s ⌝ ∗ ⌜ h ≡ hyperperiod (tasksOf s) ⌝ ∗ ⌜ Holds (tasksOf s) (now table) ⌝ }
+    requires { ⌜ Taken s ⌝ }
+    requires { ⌜ h ≡ hyperperiod (tasksOf s) ⌝ }
+    requires { ⌜ Holds (tasksOf s) (now table) ⌝ }
     ensures { λ r. ⌜ r ≡ quickBound (tasksOf s) (chainOf s) ⌝ }
 {
     let mut periods = [0u32; 16];
@@ -254,7 +269,7 @@ fn first_period(s: Sheet) -> u32
 
 // Both numbers are "cast to i32 without loss and subtracted".
 fn less_of(limit: u32, figure: u32) -> i32
-    requires { ⌜ (limit ≤ 4000000) × (figure ≤ 4000000) ⌝ }
+    requires { ⌜ (limit ≤ mostLimit) × (figure ≤ mostFigure) ⌝ }
     ensures { λ r. ⌜ r ≡ less limit figure ⌝ }
 {
     limit as i32 - figure as i32

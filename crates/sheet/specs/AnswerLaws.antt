@@ -10,7 +10,8 @@ use Rattle.sheet.specs.declared.Refusal.the-variants.{Number, Late}
 use Rattle.sheet.specs.declared.Verdict.{Verdict}
 use Rattle.sheet.specs.declared.Verdict.the-variants.{Fine, No}
 use Rattle.sheet.specs.Answers.{Answer, refused, Judgement, fine, when, also, first}
-use Rattle.sheet.specs.Fields.{width, place, next, judged}
+use Rattle.sheet.specs.Fields.{width, place, judged}
+use Rattle.sheet.specs.Steps.{next}
 use Rattle.sheet.specs.FieldLaws.{onward, onward-step}
 use Rattle.sheet.specs.Calls.{bufferAfter, judgedIn}
 use Rattle.sheet.specs.Told.{refusal, told, refusalIn, blank, sheetIn}

@@ -9,7 +9,8 @@ use lib.Dec.{ltb, eqb}
 use borrow.Author.Tests.{lt-ltb, le-ltb, eq-eqb, ne-eqb}
 use Rattle.sheet.specs.declared.Field.{Field}
 use Rattle.sheet.specs.declared.Field.the-variants.{Count, Period, Budget, Rank, Length, Entry}
-use Rattle.sheet.specs.Fields.{taskFields, entryFields, fields, width, place, opening, next, index, among}
+use Rattle.sheet.specs.Fields.{taskFields, entryFields, fields, width, place, among}
+use Rattle.sheet.specs.Steps.{opening, next, index}
 
 -- ---- one field
 

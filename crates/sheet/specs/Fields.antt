@@ -52,18 +52,6 @@ value s (Rank i) = getD (s .tasks) i none .rank
 value s Length = s .length
 value s (Entry i) = getD (s .chain) i 0
 
--- The field after a field, on a sheet of n tasks.
-abbrev pub opening : ℕ → ℕ → Field
-opening n i = cond (ltb i n) (Period i) Length
-
-abbrev pub next : ℕ → Field → Field
-next n Count = opening n 0
-next n (Period i) = Budget i
-next n (Budget i) = Rank i
-next n (Rank i) = opening n (i + 1)
-next n Length = Entry 0
-next n (Entry i) = Entry (i + 1)
-
 -- v is below low or above high
 abbrev pub outside : ℕ → ℕ → ℕ → Bool
 outside low high v = cond (ltb v low) true (ltb high v)
@@ -81,21 +69,3 @@ judged s (Budget i) = when (outside 1 (value s (Period i)) (value s (Budget i)))
 judged s (Rank i) = when (among (λ j. value s (Rank j)) i (value s (Rank i))) 5
 judged s Length = when (outside 1 (value s Count) (value s Length)) 6
 judged s (Entry i) = also (when (leb (value s Count) (value s (Entry i))) 7) (when (among (λ j. value s (Entry j)) i (value s (Entry i))) 8)
-
--- ---- names for the code's steps
-
-abbrev pub index : Field → ℕ
-index Count = 0
-index (Period i) = i
-index (Budget i) = i
-index (Rank i) = i
-index Length = 0
-index (Entry i) = i
-
-abbrev pub numbered : Bool → ℕ → Field
-numbered true i = Entry i
-numbered false i = Rank i
-
--- the entries, or the ranks
-abbrev pub series : Sheet → Bool → ℕ → ℕ
-series s entry i = value s (numbered entry i)

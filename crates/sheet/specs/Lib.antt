@@ -1,14 +1,18 @@
+-- The reader's part: answers, the format, what the calls answer, and the code's enums read as document 01's answers.
 pub mod Answers
 pub mod Fields
-pub mod FieldLaws
 pub mod Calls
-pub mod PlaceLaws
 pub mod Told
+-- The laws of the fields and of the calls.
+pub mod Steps
+pub mod FieldLaws
+pub mod PlaceLaws
 pub mod AnswerLaws
 pub mod EachLaws
 pub mod FormatLaws
 pub mod RoomLaws
 pub mod Sound
+-- The results: round trips, long inputs, and one answer for each input.
 pub mod RoundTrip
-pub mod Unique
 pub mod Front
+pub mod Unique

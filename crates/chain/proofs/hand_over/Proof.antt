@@ -12,7 +12,7 @@ use Rattle.arith.specs.Whole.{up}
 use Rattle.arith.specs.WholeLaws.{up-above, up-near}
 use Rattle.theory.specs.Model.{release}
 use Rattle.theory.specs.Chain.{nextRelease}
-use Rattle.chain.specs.Steps.{tasksIn, rowsIn}
+use Rattle.chain.specs.Steps.{mostPeriod, mostWait, mostRelease, tasksIn, rowsIn}
 use Rattle.chain.specs.ReadLaws.{release-in, row-most, next-in}
 use Rattle.chain.proofs.hand_over.Statement.{statement}
 use Rattle.chain.proofs.hand_over.Tie as tie
@@ -27,7 +27,7 @@ ready-is c =
     ⊎-elim (λ w. rw (lt-ltb _ _ (w .0 .taken)) (w .2 ∙ ap (λ x. a .k * getD (a .periods .now) (a .p) 0 + x) (w .1 .ensures)))
     (λ w. rw (le-ltb _ _ (w .0 .left)) (w .1)) (c .if1 .came)
 
-release-most : (c : tie.Start) → c .args .k * getD (c .args .periods .now) (c .args .p) 0 ≤ 4000000
+release-most : (c : tie.Start) → c .args .k * getD (c .args .periods .now) (c .args .p) 0 ≤ mostRelease
 release-most c = omega (arith, release-in (c .args .periods .now) (c .args .ranks .now) (c .args .p) (c .pre .0 .row .known) (c .args .k), c .pre .1 .1)
 
 -- The next release, and where it lies.
@@ -43,12 +43,12 @@ module _ (c : tie.Joined1) where
       (release (tasksIn (start .args .periods .now) (start .args .ranks .now)) (start .args .p) (start .args .k))
   next-is = ap (up T) (ready-is c) ∙ sym (next-in (start .args .ranks .now) (start .pre .0) (start .pre .1 .0) (start .args .k))
 
-  ready-near : (start .args .k * getD (start .args .periods .now) (start .args .p) 0 ≤ c .if1 .ready) × (c .if1 .ready ≤ 4100000)
+  ready-near : (start .args .k * getD (start .args .periods .now) (start .args .p) 0 ≤ c .if1 .ready) × (c .if1 .ready ≤ mostRelease + mostPeriod)
   ready-near = ⊎-elim
       (λ w. omega (arith, w .2, w .1 .ensures, release-most start, row-most (start .pre .0 .row) (start .args .k)))
       (λ w. omega (arith, w .1, release-most start)) (c .if1 .came)
 
-  next-near : (start .args .k * getD (start .args .periods .now) (start .args .p) 0 ≤ up T (c .if1 .ready)) × (up T (c .if1 .ready) ≤ 4200000)
+  next-near : (start .args .k * getD (start .args .periods .now) (start .args .p) 0 ≤ up T (c .if1 .ready)) × (up T (c .if1 .ready) ≤ mostRelease + mostWait)
   next-near = omega (arith, ready-near, up-above T (c .if1 .ready) (start .pre .1 .0 .period-positive), up-near T (c .if1 .ready) (start .pre .1 .0 .period-positive), start .pre .1 .0 .period-most)
 
 mul-release : tie.Need-mul-release

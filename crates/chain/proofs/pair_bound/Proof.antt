@@ -7,7 +7,7 @@ use lib.ListN.{getD}
 use borrow.Author.Tests.{lt-ltb, le-ltb}
 use Rattle.arith.specs.Whole.{gcd, up}
 use Rattle.arith.specs.WholeLaws.{gcd-divides-right, gcd-pos, up-near}
-use Rattle.chain.specs.Steps.{greatestIn}
+use Rattle.chain.specs.Steps.{mostWait, greatestIn}
 use Rattle.chain.specs.ReadLaws.{greatest-most, pair-in}
 use borrow.Author.Needs.{needs}
 use Rattle.chain.proofs.pair_bound.Statement.{statement}
@@ -24,7 +24,7 @@ module _ (s : tie.Start) where
   g-most : g ≤ getD (s .args .periods .now) (s .args .c) 0
   g-most = le-of-dvd (s .pre .1 .period-positive) (gcd-divides-right _ _)
 
-  up-most : up g R ≤ 200000
+  up-most : up g R ≤ mostWait
   up-most = omega (
     arith,
     up-near g R (gcd-pos _ (getD (s .args .periods .now) (s .args .c) 0) (s .pre .0 .period-positive)),

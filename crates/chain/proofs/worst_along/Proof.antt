@@ -5,6 +5,7 @@ use native.Mathlib.Nat.{le-trans, mul-le-mul-right}
 use native.Mathlib.Omega.{arith}
 use lib.ListN.{getD}
 use borrow.Author.Needs.{needs}
+use Rattle.schedule.specs.Answer.{mostTicks}
 use Rattle.chain.specs.Answer.{firstOf}
 use Rattle.chain.specs.Steps.{delayIn, Entry}
 use Rattle.chain.specs.ReadLaws.{release-in}
@@ -27,7 +28,7 @@ module _ (s : tie.Start Inv-loop μ-loop) where
   entry : Entry (s .args .periods .now) (s .args .starts .now) (s .args .counts .now) (s .args .table .now) first
   entry = s .pre .0 .entry 0 (s .pre .0 .some)
 
-  release-most : (k : ℕ) → k ≤ getD (s .args .counts .now) first 0 → k * getD (s .args .periods .now) first 0 ≤ 1000000
+  release-most : (k : ℕ) → k ≤ getD (s .args .counts .now) first 0 → k * getD (s .args .periods .now) first 0 ≤ mostTicks
   release-most k l = le-trans (mul-le-mul-right (getD (s .args .periods .now) first 0) l) (s .pre .1 .1)
 
 shared-slice-read-p : tie.Need-shared-slice-read-p Inv-loop μ-loop

@@ -3,7 +3,8 @@ use mathlib.Core.Path.{_≡_, refl, sym, ap, _∙_}
 use Prim.Native.Nat.{_-_, _≤_}
 use native.Mathlib.Omega.{arith}
 use Rattle.sheet.specs.Answers.{when}
-use Rattle.sheet.specs.Fields.{value, series, among}
+use Rattle.sheet.specs.Fields.{value, among}
+use Rattle.sheet.specs.Steps.{series}
 use Rattle.sheet.specs.FieldLaws.{among-here, among-past, among-none}
 use borrow.Author.Needs.{needs}
 use Rattle.sheet.proofs.fresh.Statement.{statement}

@@ -5,7 +5,8 @@ use native.Mathlib.Omega.{arith}
 use borrow.Author.Tests.{le-leb, lt-leb}
 use Rattle.sheet.specs.declared.Field.the-variants.{Entry}
 use Rattle.sheet.specs.Answers.{when, also}
-use Rattle.sheet.specs.Fields.{value, series, among}
+use Rattle.sheet.specs.Fields.{value, among}
+use Rattle.sheet.specs.Steps.{series}
 use borrow.Author.Needs.{needs}
 use Rattle.sheet.proofs.judge_entry.Statement.{statement}
 use Rattle.sheet.proofs.judge_entry.Tie as tie

@@ -4,7 +4,8 @@ use Prim.Native.Nat.{ℕ, _+_, _-_, _*_, _≤_}
 use native.Mathlib.Omega.{arith}
 use Rattle.sheet.specs.Answers.{also, first}
 use Rattle.sheet.specs.AnswerLaws.{also-no, also-fine, first-step, first-none, judged-short, judged-whole}
-use Rattle.sheet.specs.Fields.{fields, place, next, index}
+use Rattle.sheet.specs.Fields.{fields, place}
+use Rattle.sheet.specs.Steps.{next, index}
 use Rattle.sheet.specs.FieldLaws.{end-small, index-next, onward, fields-onward}
 use Rattle.sheet.specs.Calls.{fieldsOf, judgedIn}
 use Rattle.sheet.specs.Told.{told}

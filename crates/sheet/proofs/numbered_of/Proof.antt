@@ -1,6 +1,6 @@
 -- The two arms are the definition's.
 use mathlib.Core.Path.{sym, ap}
-use Rattle.sheet.specs.Fields.{numbered}
+use Rattle.sheet.specs.Steps.{numbered}
 use Rattle.sheet.proofs.numbered_of.Statement.{statement}
 use Rattle.sheet.proofs.numbered_of.Tie as tie
 

@@ -11,7 +11,8 @@ use Rattle.bits.specs.Lists.{sets-append}
 use Rattle.bits.specs.Bytes.{length-unpack}
 use Rattle.sheet.specs.declared.Sheet.{Sheet}
 use Rattle.sheet.specs.declared.Field.{Field}
-use Rattle.sheet.specs.Fields.{fields, width, value, next, index}
+use Rattle.sheet.specs.Fields.{fields, width, value}
+use Rattle.sheet.specs.Steps.{next, index}
 use Rattle.sheet.specs.FieldLaws.{width-small, index-next, onward, onward-step, fields-onward}
 use Rattle.sheet.specs.Calls.{fieldsOf, bitsOf}
 use borrow.Author.Needs.{needs}

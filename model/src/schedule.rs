@@ -29,15 +29,16 @@ pub fn night(tasks: &[Task], h: u32, demand: impl Fn(usize, u32) -> u32) -> Nigh
             }
         }
         let running = (0..tasks.len()).filter(|&i| !pending[i].is_empty()).max_by_key(|&i| tasks[i].rank);
-        let Some(i) = running else {
-            idle += 1;
-            continue;
-        };
-        let job = pending[i].front_mut().unwrap();
-        job.1 -= 1;
-        if job.1 == 0 {
-            finishes[i][job.0] = Some(tick + 1);
-            pending[i].pop_front();
+        match running {
+            None => idle += 1,
+            Some(i) => {
+                let job = pending[i].front_mut().unwrap();
+                job.1 -= 1;
+                if job.1 == 0 {
+                    finishes[i][job.0] = Some(tick + 1);
+                    pending[i].pop_front();
+                }
+            }
         }
     }
     Night { finishes, idle }
@@ -79,7 +80,7 @@ pub fn fill(z: Sizes, table: &mut [u32]) -> Result<Worked, Refusal> {
     let night = night(&tasks, hyperperiod, |i, _| tasks[i].budget);
     let on_time = |i: usize| {
         let period = tasks[i].period;
-        night.finishes[i].iter().zip(1..).all(|(f, next)| f.is_some_and_at_most(next * period))
+        night.finishes[i].iter().zip(1..).all(|(f, next)| f.map_or(false, |f| f <= next * period))
     };
     if let Some(late) = (0..tasks.len()).filter(|&i| !on_time(i)).max_by_key(|&i| tasks[i].rank) {
         table[..jobs as usize].fill(0);
@@ -96,14 +97,4 @@ pub fn fill(z: Sizes, table: &mut [u32]) -> Result<Worked, Refusal> {
 
 pub fn responses(s: &Memory, table: &mut [u32]) -> Result<Worked, Refusal> {
     fill(sizes(s)?, table)
-}
-
-trait ByThen {
-    fn is_some_and_at_most(&self, limit: u32) -> bool;
-}
-
-impl ByThen for Option<u32> {
-    fn is_some_and_at_most(&self, limit: u32) -> bool {
-        self.map_or(false, |f| f <= limit)
-    }
 }

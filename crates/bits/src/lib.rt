@@ -1,7 +1,8 @@
-// Bits in bytes, most significant first: a number read from any place, and a number put there.
+// Bits in bytes, most significant first: a number read from any place, and a number put there, for every input. What bits, numbers
+// and bytes have to do with each other is said in specs/Bits.antt; the laws beside it serve every packed format.
 ghost use mathlib.Core.Path.{_≡_};
 ghost use mathlib.Core.Bool.{false};
-ghost use Prim.Native.Nat.{ℕ, _-_, _^_, _<_, min};
+ghost use Prim.Native.Nat.{_-_, _^_, _<_, min};
 ghost use lib.ListN.{getD, set};
 ghost use lib.Seq.{sets};
 ghost use Rattle.bits.specs.Bits.{one, odd, bits, unpack, number};

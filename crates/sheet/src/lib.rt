@@ -1,9 +1,9 @@
-// The timing sheet: read from bytes, judged in memory, written to bytes.
+// The timing sheet: read from bytes, judged in memory, written to bytes. Its format is one list of fields, each with a width, a
+// place, a value and a judgement (specs/Fields.antt); what the calls answer is said over that list (specs/Calls.antt), and that
+// writing and reading are inverse is proved of it (specs/RoundTrip.antt).
 use theory::Task;
 ghost use mathlib.Core.Path.{_≡_};
-ghost use mathlib.Core.Bool.{Bool};
-ghost use mathlib.Core.List.{List};
-ghost use Prim.Native.Nat.{ℕ, _+_, _*_, _<_, _≤_, min};
+ghost use Prim.Native.Nat.{_*_, _<_, _≤_, min};
 ghost use lib.ListN.{length, getD};
 ghost use lib.Seq.{sets};
 ghost use Rattle.bits.specs.Bits.{unpack};

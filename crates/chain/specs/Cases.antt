@@ -3,12 +3,10 @@ use mathlib.Core.Path.{_≡_, refl, sym, ap, _∙_, subst}
 use mathlib.Core.List.{List, []}
 use Prim.Native.Nat.{ℕ, _%_, _≤_, _<_}
 use native.Mathlib.Omega.{arith}
-use lib.ListN.{length, drop}
-use lib.Seq.{take-at}
 use borrow.Author.Tests.{lt-ltb, le-ltb, le-leb, lt-leb, ne-eqb}
 use Rattle.theory.specs.declared.Task.{Task}
 use Rattle.theory.specs.Model.{period}
-use Rattle.theory.specs.Responses.{hyperperiod, allJobs}
+use Rattle.theory.specs.Responses.{hyperperiod}
 use Rattle.sheet.specs.declared.Sheet.{Sheet}
 use Rattle.sheet.specs.declared.Refusal.{Refusal}
 use Rattle.sheet.specs.declared.Refusal.the-variants.{Number, Late}
@@ -17,11 +15,11 @@ use Rattle.sheet.specs.Sound.{judged-sound}
 use Rattle.sheet.specs.Told.{refusal}
 use Rattle.schedule.specs.declared.answer.Totals.{Totals}
 use Rattle.schedule.specs.declared.answer.Size.{Size}
-use Rattle.schedule.specs.Answer.{tasksOf, sizesOf, responsesOf, rows, tableAfter}
+use Rattle.schedule.specs.Answer.{tasksOf, sizesOf, responsesOf, tableAfter}
 use Rattle.schedule.specs.Cases.{NumberMost, sizes-most}
-use Rattle.schedule.specs.Results.{responses-given, rows-length}
+use Rattle.schedule.specs.Results.{responses-given}
 use Rattle.chain.specs.Answer.{chainOf, firstOf, delayAt, less, mostLimit, delayOf, worstOf, marginOf, leaves}
-use Rattle.chain.specs.Steps.{Taken, Holds}
+use Rattle.chain.specs.Steps.{Taken}
 
 -- ---- the sheet and the table behind a filled answer
 
@@ -29,16 +27,6 @@ pub filled-taken : (s : Sheet) (room : ℕ) {totals : Totals} → responsesOf s 
 filled-taken s room e =
     let g = responses-given s room e in
     record { sound = judged-sound s (g .judged-fine); accepted = g .accepted; short = g .hyperperiod-most; few = g .jobs-most }
-
-pub filled-holds : (s : Sheet) (old : List ℕ) {table : List ℕ} {totals : Totals} → responsesOf s (length old) ≡ given totals
-    → table ≡ tableAfter (responsesOf s (length old)) (tasksOf s) old → Holds (tasksOf s) table
-unfolding allJobs
-filled-holds s old {table} e q = record {
-  rows-first = rw (q, e) (take-at (rows ts (length ts)) (drop (allJobs ts) old) (allJobs ts) (rows-length ts (length ts)));
-}
-  where
-    ts : List Task
-    ts = tasksOf s
 
 -- ---- how a call ends
 

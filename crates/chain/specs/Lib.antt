@@ -9,7 +9,6 @@ pub mod Largest
 pub mod WalkLaws
 pub mod SheetLaws
 pub mod GatherLaws
-pub mod RowLaws
 pub mod AlikeLaws
 pub mod PlanLaws
 pub mod Cases

@@ -18,12 +18,12 @@ use Rattle.sheet.specs.declared.Sheet.{Sheet}
 use Rattle.schedule.specs.Answer.{mostTicks, tasksOf}
 use Rattle.chain.specs.declared.answer.Figure.{Figure}
 use Rattle.chain.specs.Answer.{chainOf, firstOf, restOf, delayAt, figureOf, quickBound}
-use Rattle.chain.specs.Steps.{Taken, Holds, tasksIn, rowsIn, greatestIn, delayIn, Entry, Path, Greatest, Gathered}
+use Rattle.chain.specs.Steps.{Taken, tasksIn, rowsIn, greatestIn, delayIn, Entry, Path, Greatest, Gathered}
+use Rattle.schedule.specs.Steps.{Holds}
 use Rattle.chain.specs.GreatestLaws.{maximum-same}
 use Rattle.chain.specs.ReadLaws.{period-in, rank-in}
 use Rattle.chain.specs.SheetLaws.{tasks-length, period-positive, period-most, entry-listed, chain-known}
 use Rattle.chain.specs.GatherLaws.{row-within}
-use Rattle.chain.specs.RowLaws.{holds-room, holds-entry}
 use Rattle.chain.specs.AlikeLaws.{delay-alike, bound-alike}
 
 module _ {s : Sheet} (taken : Taken s) {table : List ℕ} (holds : Holds (tasksOf s) table)
@@ -55,7 +55,7 @@ module _ {s : Sheet} (taken : Taken s) {table : List ℕ} (holds : Holds (tasksO
   response-is : (i k : ℕ) → listed i → rowsIn starts counts table i k ≡ response ts i k
   response-is i k l =
       ap₂ (λ x y. getD table (x + k % y) 0) (gathered .starts-are .holds i (counted i l)) (gathered .counts-are .holds i (counted i l))
-      ∙ holds-entry ts holds i (k % jobs ts i) l (mod-lt k (jobs-positive (taken .accepted .proper) i l))
+      ∙ holds .entry i (k % jobs ts i) l (mod-lt k (jobs-positive (taken .accepted .proper) i l))
       ∙ sym (response-jobs (taken .accepted) i l k)
 
   greatest-is : (i : ℕ) → listed i → greatestIn starts counts table i ≡ taskResponse ts i
@@ -72,9 +72,9 @@ module _ {s : Sheet} (taken : Taken s) {table : List ℕ} (holds : Holds (tasksO
       known = sixteen i l;
       some = rw count (jobs-positive (taken .accepted .proper) i l);
       few = omega (arith, start, count, row-within ts i l, taken .few);
-      within = omega (arith, start, count, row-within ts i l, holds-room ts holds);
+      within = omega (arith, start, count, row-within ts i l, holds .enough);
       response-most = λ k m.
-          rw (start, holds-entry ts holds i k l (rw count at m)) (le-trans (response-period (taken .accepted) i l k) (period-most (taken .sound) i l));
+          rw (start, holds .entry i k l (rw count at m)) (le-trans (response-period (taken .accepted) i l k) (period-most (taken .sound) i l));
     };
   }
     where

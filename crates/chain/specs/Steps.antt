@@ -4,7 +4,7 @@ use mathlib.Core.Bool.{cond}
 use mathlib.Core.List.{List}
 use Prim.Native.Nat.{ℕ, _+_, _-_, _*_, _%_, _≤_, _<_}
 use lib.Dec.{eqb}
-use lib.ListN.{length, getD, take}
+use lib.ListN.{length, getD}
 use Rattle.arith.specs.Whole.{up}
 use Rattle.bits.specs.Bits.{listOf}
 use Rattle.theory.specs.declared.Task.{Task}
@@ -49,10 +49,6 @@ pub record Taken (s : Sheet) : Type 0 where
   pub accepted : Accepted (tasksOf s)
   pub short : hyperperiod (tasksOf s) ≤ mostTicks
   pub few : allJobs (tasksOf s) ≤ mostJobs
-
--- The table holds the rows of the tasks.
-pub record Holds (ts : List Task) (table : List ℕ) : Type 0 where
-  pub rows-first : take (allJobs ts) table ≡ rows ts (length ts)
 
 -- ---- what the walk reads: by task, the period, the rank, where its row starts and how many jobs it has
 

@@ -25,7 +25,8 @@ ghost use Rattle.sheet.specs.Sound.{Sound};
 ghost use Rattle.schedule.specs.Answer.{mostTicks, tasksOf};
 ghost use Rattle.schedule.specs.Steps.{refusalOf};
 ghost use Rattle.chain.specs.Answer.{chainOf, firstOf, restOf, delayAt, figureOf, quickBound, less, mostLimit, delayOf, worstOf, boundOf, marginOf, defaultMarginOf, leaves, toldDelay, toldWorst, toldBound, toldMargin};
-ghost use Rattle.chain.specs.Steps.{mostWait, mostFigure, mostRelease, Taken, Holds, tasksIn, rowsIn, greatestIn, delayIn, HandedOver, Row, Entry, Path, Greatest, pairBound, Gathered, responsesRefusal, worstRefusal};
+ghost use Rattle.schedule.specs.Steps.{Holds};
+ghost use Rattle.chain.specs.Steps.{mostWait, mostFigure, mostRelease, Taken, tasksIn, rowsIn, greatestIn, delayIn, HandedOver, Row, Entry, Path, Greatest, pairBound, Gathered, responsesRefusal, worstRefusal};
 
 // "margin limit 0 to 4,000,000"
 const MOST_LIMIT: u32 = 4000000;

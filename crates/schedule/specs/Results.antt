@@ -6,7 +6,7 @@ use Prim.Native.Nat.{ℕ, zero, suc, _+_, _*_, _/_, _≤_, _<_}
 use native.Mathlib.Omega.{arith}
 use lib.Dec.{ltb}
 use native.Mathlib.Decide.{ℕ-discrete}
-use lib.ListN.{length, getD, length-append, List·getD-append}
+use lib.ListN.{length, getD, drop, length-append, List·getD-append}
 use lib.Seq.{getD-append-add}
 use borrow.Author.Tests.{ltb-false}
 use Rattle.theory.specs.declared.Task.{Task}
@@ -27,6 +27,7 @@ use Rattle.theory.specs.Model.{period, budget, done}
 use Rattle.theory.specs.Responses.{fullBudget, response, jobs}
 use Rattle.theory.specs.Idle.{runs-exactly, idle-adds-up}
 use Rattle.schedule.specs.Answer.{row, rows, tableAfter}
+use Rattle.schedule.specs.Steps.{Holds}
 use Rattle.schedule.specs.Cases.{NumberMost, sizes-most, sizes-fit, Sized, sizes-given, sound-proper, responses-late, responses-full}
 
 -- When each answer is given
@@ -158,6 +159,18 @@ table-entry s old e i k l m =
     ap (λ x. getD (tableAfter x ts old) (sum i (jobs ts) + k) 0) e
     ∙ List·getD-append (rows ts (length ts)) _ 0 (sum i (jobs ts) + k) (omega (arith, rows-length ts (length ts), sum-grows (jobs ts) (suc i) (length ts) l))
     ∙ rows-entry ts (length ts) i k l m
+  where
+    ts : List Task
+    ts = tasksOf s
+
+-- So it holds the rows.
+pub filled-holds : (s : Sheet) (old : List ℕ) {table : List ℕ} {totals : Totals} → responsesOf s (length old) ≡ given totals
+    → table ≡ tableAfter (responsesOf s (length old)) (tasksOf s) old → Holds (tasksOf s) table
+unfolding allJobs
+filled-holds s old {table} e q = record {
+  enough = omega (arith, ap length (q ∙ ap (λ a. tableAfter a ts old) e), length-append (rows ts (length ts)) (drop (allJobs ts) old), rows-length ts (length ts));
+  entry = λ i k l m. ap (λ xs. getD xs (sum i (jobs ts) + k) 0) q ∙ table-entry s old e i k l m;
+}
   where
     ts : List Task
     ts = tasksOf s

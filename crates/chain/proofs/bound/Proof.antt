@@ -8,7 +8,8 @@ use Rattle.schedule.specs.Answer.{tasksOf, responsesOf, toldTotals}
 use Rattle.schedule.specs.Results.{responses-given}
 use Rattle.chain.specs.Answer.{boundOf}
 use Rattle.chain.specs.Steps.{responsesRefusal}
-use Rattle.chain.specs.Cases.{filled-taken, filled-holds, table-leaves, ended-no, ended-given}
+use Rattle.chain.specs.Cases.{filled-taken, table-leaves, ended-no, ended-given}
+use Rattle.schedule.specs.Results.{filled-holds}
 use Rattle.chain.proofs.bound.Statement.{statement}
 use Rattle.chain.proofs.bound.Tie as tie
 

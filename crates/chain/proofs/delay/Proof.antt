@@ -16,7 +16,8 @@ use Rattle.schedule.specs.Steps.{refusalOf}
 use Rattle.chain.specs.Answer.{chainOf, firstOf, delayAt, delayOf}
 use Rattle.chain.specs.Steps.{responsesRefusal}
 use Rattle.chain.specs.SheetLaws.{job-early, job-release}
-use Rattle.chain.specs.Cases.{filled-taken, filled-holds, table-leaves, ended-no, ended-given, ended-number, sizes-untouched, delay-beyond, delay-between, delay-asked}
+use Rattle.chain.specs.Cases.{filled-taken, table-leaves, ended-no, ended-given, ended-number, sizes-untouched, delay-beyond, delay-between, delay-asked}
+use Rattle.schedule.specs.Results.{filled-holds}
 use Rattle.chain.proofs.delay.Statement.{statement}
 use Rattle.chain.proofs.delay.Tie as tie
 

@@ -1,18 +1,15 @@
 -- The rows that `responses` leaves hold each task's responses, so the greatest entry of a row is R of its task.
 use mathlib.Core.Path.{_≡_, refl, sym, ap, _∙_}
-use Prim.Native.Nat.{_+_}
 use native.Mathlib.Omega.{arith}
-use lib.ListN.{length, getD, replicate, length-map}
+use lib.ListN.{length, replicate, length-map}
 use Rattle.bits.specs.Bits.{listOf}
-use Rattle.theory.specs.Ranges.{sum}
-use Rattle.theory.specs.Responses.{jobs}
 use Rattle.sheet.specs.declared.Sheet.{Sheet}
 use Rattle.sheet.specs.declared.Refusal.{Refusal}
 use Rattle.sheet.specs.declared.Refusal.the-variants.{Number, Late}
 use Rattle.sheet.specs.Told.{refusal}
 use Rattle.sheet.specs.Sound.{judged-sound}
-use Rattle.schedule.specs.Answer.{tasksOf, greatestAfter, toldTotals}
-use Rattle.schedule.specs.Results.{responses-given, table-entry}
+use Rattle.schedule.specs.Answer.{greatestAfter, toldTotals}
+use Rattle.schedule.specs.Results.{responses-given, filled-holds}
 use borrow.Author.Needs.{needs}
 use Rattle.schedule.proofs.task_responses.Statement.{statement}
 use Rattle.schedule.proofs.task_responses.Tie as tie
@@ -52,10 +49,7 @@ greatest-each-requires c κs =
       record { sound = judged-sound s (g .judged-fine); whole = sym (length-map (s .tasks) _) ∙ a .good .0 .1 .1 .0 .1 .0 .1 },
       (
         record { is-hyperperiod = g .hyperperiod-is; within-limit = omega (arith, g) },
-        record {
-          enough = omega (arith, g .jobs-fit, r .kept .1 .0);
-          entry = λ i k l m. ap (λ x. getD x (sum i (jobs (tasksOf s)) + k) 0) (r .ensures .1) ∙ table-entry s old e i k l m;
-        },
+        filled-holds s old e (r .ensures .1),
       ),
     )
 

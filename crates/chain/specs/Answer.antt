@@ -13,6 +13,7 @@ use Rattle.sheet.specs.declared.Sheet.{Sheet}
 use Rattle.sheet.specs.Answers.{Answer, given, refused, when, after, also}
 use Rattle.sheet.specs.Told.{refusal}
 use Rattle.schedule.specs.Answer.{tasksOf, sizesOf, responsesOf, rows, tableAfter}
+use Rattle.schedule.specs.declared.answer.Totals.{Totals}
 use Rattle.chain.specs.declared.answer.Figure.{Figure}
 use Rattle.chain.specs.declared.answer.Delay.{Delay}
 use Rattle.chain.specs.declared.answer.Delay.the-variants.{Ticks as DelayTicks, No as NoDelay}
@@ -22,6 +23,9 @@ use Rattle.chain.specs.declared.answer.Bound.{Bound}
 use Rattle.chain.specs.declared.answer.Bound.the-variants.{Ticks as BoundTicks, No as NoBound}
 use Rattle.chain.specs.declared.answer.Margin.{Margin}
 use Rattle.chain.specs.declared.answer.Margin.the-variants.{Ticks as MarginTicks, No as NoMargin}
+use Rattle.chain.specs.declared.answer.Summary.{Summary}
+use Rattle.chain.specs.declared.answer.Figures.{Figures}
+use Rattle.chain.specs.declared.answer.Figures.the-variants.{Of, No as NoFigures}
 
 -- The chain on a sheet is in the first `length` of its sixteen places: its first task, and those that follow.
 abbrev pub chainOf : Sheet → List ℕ
@@ -91,6 +95,20 @@ marginOf s limit room =
 abbrev pub defaultMarginOf : Sheet → ℕ → Answer ℤ
 defaultMarginOf s room = marginOf s defaultLimit room
 
+-- What a report says: "n, H, J, idle", "the worst figure and its smallest release; the bound; the margin under the default limit".
+abbrev pub summaryOf : List Task → List ℕ → Totals → Summary
+summaryOf ts chain totals = record {
+  totals = totals;
+  worst = figureOf ts chain;
+  bound = quickBound ts chain;
+  margin = less defaultLimit (figureOf ts chain .ticks);
+}
+
+unfoldable pub figuresOf : Sheet → ℕ → Answer Summary
+figuresOf s room =
+    after (responsesOf s room) λ totals.
+    given (summaryOf (tasksOf s) (chainOf s) totals)
+
 -- Each call leaves the rows in the table, or what `responses` leaves with a refusal of that number.
 abbrev pub leaves : {A : Type 0} → Answer A → List Task → List ℕ → List ℕ
 leaves (given x) ts old = rows ts (length ts) ++ drop (allJobs ts) old
@@ -112,3 +130,7 @@ toldBound (NoBound r) = refusal r
 abbrev pub toldMargin : Margin → Answer ℤ
 toldMargin (MarginTicks ticks) = given ticks
 toldMargin (NoMargin r) = refusal r
+
+abbrev pub toldFigures : Figures → Answer Summary
+toldFigures (Of summary) = given summary
+toldFigures (NoFigures r) = refusal r

@@ -3,6 +3,7 @@ use mathlib.Core.Path.{_≡_, refl, sym, ap, _∙_, subst}
 use mathlib.Core.List.{List, []}
 use Prim.Native.Nat.{ℕ, _%_, _≤_, _<_}
 use native.Mathlib.Omega.{arith}
+use lib.IntN.{ℤ}
 use borrow.Author.Tests.{lt-ltb, le-ltb, le-leb, lt-leb, ne-eqb}
 use Rattle.theory.specs.declared.Task.{Task}
 use Rattle.theory.specs.Model.{period}
@@ -18,6 +19,7 @@ use Rattle.schedule.specs.declared.answer.Size.{Size}
 use Rattle.schedule.specs.Answer.{tasksOf, sizesOf, responsesOf, tableAfter}
 use Rattle.schedule.specs.Cases.{NumberMost, sizes-most}
 use Rattle.schedule.specs.Results.{responses-given}
+use Rattle.chain.specs.declared.answer.Figure.{Figure}
 use Rattle.chain.specs.Answer.{chainOf, firstOf, delayAt, less, mostLimit, delayOf, worstOf, marginOf, leaves}
 use Rattle.chain.specs.Steps.{Taken}
 
@@ -95,6 +97,12 @@ module _ (s : Sheet) (room : ℕ) {size : Size} (fits : sizesOf s ≡ given size
   unfolding marginOf
   margin-over limit h = rw (fits, lt-ltb mostLimit limit h)
 
-  pub margin-asked : (limit : ℕ) → limit ≤ mostLimit → marginOf s limit room ≡ after (worstOf s room) (λ figure. given (less limit (figure .ticks)))
-  unfolding marginOf
-  margin-asked limit h = rw (fits, le-ltb mostLimit limit h)
+-- A limit that is allowed takes no part in the refusals.
+pub margin-asked : (s : Sheet) (room limit : ℕ) → limit ≤ mostLimit → marginOf s limit room ≡ after (worstOf s room) (λ figure. given (less limit (figure .ticks)))
+unfolding marginOf worstOf responsesOf
+margin-asked s room limit h = rw (le-ltb mostLimit limit h) (go (sizesOf s) _ _ _)
+  where
+    go : (z : Answer Size) (fill : Size → Answer Totals) (figure : Totals → Answer Figure) (less : Figure → Answer ℤ)
+        → after z (λ size. after (after (after z fill) figure) less) ≡ after (after (after z fill) figure) less
+    go (given size) fill figure less = refl
+    go (refused number values) fill figure less = refl

@@ -7,6 +7,7 @@ pub mod MarginLaws
 pub mod ReadLaws
 pub mod Largest
 pub mod WalkLaws
+pub mod FollowLaws
 pub mod SheetLaws
 pub mod GatherLaws
 pub mod AlikeLaws

@@ -17,12 +17,15 @@ use Rattle.theory.specs.Demand3 as demand
 use Rattle.theory.specs.Demand3.{GreatestDelay}
 use Rattle.sheet.specs.declared.Sheet.{Sheet}
 use Rattle.sheet.specs.Answers.{given}
-use Rattle.schedule.specs.Answer.{tasksOf}
-use Rattle.chain.specs.Answer.{chainOf, firstOf, restOf, delayOf, worstOf, boundOf, marginOf}
+use Rattle.schedule.specs.declared.answer.Totals.{Totals}
+use Rattle.schedule.specs.Answer.{tasksOf, responsesOf}
+use Rattle.chain.specs.declared.answer.Summary.{Summary}
+use Rattle.chain.specs.Answer.{chainOf, firstOf, restOf, defaultLimit, summaryOf, delayOf, worstOf, boundOf, marginOf, defaultMarginOf, figuresOf}
 use Rattle.chain.specs.Steps.{Taken}
 use Rattle.chain.specs.MarginLaws.{kept-within, below-over}
 use Rattle.chain.specs.SheetLaws.{chain-known, job-release}
-use Rattle.chain.specs.Answered.{delay-release, delay-given, worst-given, bound-given, margin-given}
+use Rattle.chain.specs.Cases.{margin-asked}
+use Rattle.chain.specs.Answered.{after-given, delay-release, delay-given, worst-given, bound-given, margin-given}
 
 -- ---- the words
 
@@ -200,3 +203,30 @@ margin-exceeded s limit room z answer below rising run schedule =
     let g = margin-given s limit room answer in
     let x = worst-is-reached s room (g .0) (g .1) (g .2) rising run schedule in
     (x .0, g .1 + g .0, x .2, omega (arith, x .1, below-over limit (g .0) (subst (λ y. y <ℤ pos 0) (sym (g .3)) below)))
+
+-- ---- the answers of one filling
+
+-- What `figures` gives is what the calls for each of its parts give, so that everything above holds of it.
+pub record Alike (s : Sheet) (room : ℕ) (x : Summary) : Type 0 where
+  pub totals-alike : responsesOf s room ≡ given (x .totals)
+  pub worst-alike : worstOf s room ≡ given (x .worst)
+  pub bound-alike : boundOf s room ≡ given (x .bound)
+  pub margin-alike : defaultMarginOf s room ≡ given (x .margin)
+
+pub figures-alike : (s : Sheet) (room : ℕ) {x : Summary} → figuresOf s room ≡ given x → Alike s room x
+unfolding figuresOf worstOf boundOf
+figures-alike s room {x} e = record {
+  totals-alike = filled;
+  worst-alike = rw (filled) (ap (λ a. given (a .worst)) same);
+  bound-alike = rw (filled) (ap (λ a. given (a .bound)) same);
+  margin-alike = margin-asked s room defaultLimit (omega arith) ∙ rw (filled) (ap (λ a. given (a .margin)) same);
+}
+  where
+    found : (totals : Totals) × (responsesOf s room ≡ given totals) × (given (summaryOf (tasksOf s) (chainOf s) totals) ≡ given x)
+    found = after-given (responsesOf s room) _ e
+
+    same : summaryOf (tasksOf s) (chainOf s) (found .0) ≡ x
+    same = cc (found .2)
+
+    filled : responsesOf s room ≡ given (x .totals)
+    filled = found .1 ∙ ap (λ a. given (a .totals)) same

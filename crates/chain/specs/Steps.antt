@@ -4,7 +4,7 @@ use mathlib.Core.Bool.{cond}
 use mathlib.Core.List.{List}
 use Prim.Native.Nat.{ℕ, _+_, _-_, _*_, _%_, _≤_, _<_}
 use lib.Dec.{eqb}
-use lib.ListN.{length, getD}
+use lib.ListN.{length, getD, drop}
 use Rattle.arith.specs.Whole.{up}
 use Rattle.bits.specs.Bits.{listOf}
 use Rattle.theory.specs.declared.Task.{Task}
@@ -73,6 +73,19 @@ delayIn periods ranks starts counts table chain k =
 pub record HandedOver (ts : List Task) (table : Table) (p c k : ℕ) (next : HandOver) : Type 0 where
   pub job-is : release ts c (next .job) ≡ nextRelease ts table p c (release ts p k)
   pub wait-is : next .wait ≡ nextRelease ts table p c (release ts p k) - release ts p k
+
+-- How much of a chain the first hand-over leaves behind, and what is left.
+abbrev pub onward : List ℕ → ℕ
+onward chain = cond (eqb (length chain) 1) 0 1
+
+abbrev pub ahead : List ℕ → List ℕ
+ahead chain = drop (onward chain) chain
+
+-- The first hand-over of the reading of job k of a chain's first task, after which `rest` is left of the chain.
+pub record Opened (periods ranks starts counts table chain rest : List ℕ) (k : ℕ) (next : HandOver) : Type 0 where
+  pub delay-is : delayIn periods ranks starts counts table chain k ≡ next .wait + delayIn periods ranks starts counts table rest (next .job)
+  pub meets : release (tasksIn periods ranks) (firstOf chain) k + next .wait ≡ release (tasksIn periods ranks) (firstOf rest) (next .job)
+  pub near : next .wait ≤ mostWait
 
 -- The row of task i is in the table, and no response in it is over the longest period.
 pub record Row (starts counts table : List ℕ) (i : ℕ) : Type 0 where

@@ -1,12 +1,13 @@
--- One answer and one content of the table for each input of `delay`, `worst`, `bound`, `margin`, `default_margin` and `magnitude`.
-use mathlib.Core.Path.{_≡_, sym, ap, _∙_}
+-- One answer and one content of the table for each input of `delay`, `worst`, `bound`, `margin`, `default_margin`, `figures` and
+-- `magnitude`.
+use mathlib.Core.Path.{_≡_, sym, ap, ap₂, _∙_}
 use mathlib.Core.List.{List}
 use Prim.Native.Nat.{ℕ}
 use lib.IntN.{ℤ, natAbs}
 use lib.ListN.{length}
 use Rattle.sheet.specs.declared.Sheet.{Sheet}
 use Rattle.sheet.specs.Unique.{refusal-unique, refusal-given}
-use Rattle.schedule.specs.Answer.{tasksOf}
+use Rattle.schedule.specs.Answer.{tasksOf, responsesOf, greatestAfter}
 use Rattle.chain.specs.declared.answer.Delay.{Delay}
 use Rattle.chain.specs.declared.answer.Delay.the-variants.{Ticks as DelayTicks, No as NoDelay}
 use Rattle.chain.specs.declared.answer.Worst.{Worst}
@@ -15,7 +16,10 @@ use Rattle.chain.specs.declared.answer.Bound.{Bound}
 use Rattle.chain.specs.declared.answer.Bound.the-variants.{Ticks as BoundTicks, No as NoBound}
 use Rattle.chain.specs.declared.answer.Margin.{Margin}
 use Rattle.chain.specs.declared.answer.Margin.the-variants.{Ticks as MarginTicks, No as NoMargin}
-use Rattle.chain.specs.Answer.{delayOf, worstOf, boundOf, marginOf, defaultLimit, defaultMarginOf, toldDelay, toldWorst, toldBound, toldMargin}
+use Rattle.chain.specs.declared.answer.Figures.{Figures}
+use Rattle.chain.specs.declared.answer.Figures.the-variants.{Of, No as NoFigures}
+use Rattle.chain.specs.declared.answer.TaskFigures.{TaskFigures}
+use Rattle.chain.specs.Answer.{delayOf, worstOf, boundOf, marginOf, defaultLimit, defaultMarginOf, figuresOf, toldDelay, toldWorst, toldBound, toldMargin, toldFigures}
 use Rattle.chain.specs.Cases.{Ended}
 
 -- Document 01's answer tells the case of the enum.
@@ -44,6 +48,12 @@ margin-told (MarginTicks m) (NoMargin q) e = refusal-given q (sym e)
 margin-told (NoMargin r) (MarginTicks n) e = refusal-given r e
 margin-told (NoMargin r) (NoMargin q) e = ap NoMargin (refusal-unique r q e)
 
+figures-told : (x y : Figures) → toldFigures x ≡ toldFigures y → x ≡ y
+figures-told (Of m) (Of n) e = cc
+figures-told (Of m) (NoFigures q) e = refusal-given q (sym e)
+figures-told (NoFigures r) (Of n) e = refusal-given r e
+figures-told (NoFigures r) (NoFigures q) e = ap NoFigures (refusal-unique r q e)
+
 -- Two answers and tables that meet a call's promise are equal.
 
 module _ (s : Sheet) (old table table′ : List ℕ) where
@@ -66,6 +76,11 @@ module _ (s : Sheet) (old table table′ : List ℕ) where
   pub default-margin-unique : (x y : Margin) → Ended (defaultMarginOf s (length old)) (tasksOf s) old (toldMargin x) table
       → Ended (defaultMarginOf s (length old)) (tasksOf s) old (toldMargin y) table′ → (x ≡ y) × (table ≡ table′)
   default-margin-unique = margin-unique defaultLimit
+
+  pub figures-unique : (x y : TaskFigures) → Ended (figuresOf s (length old)) (tasksOf s) old (toldFigures (x .answer)) table → x .greatest ≡ greatestAfter (responsesOf s (length old)) s
+      → Ended (figuresOf s (length old)) (tasksOf s) old (toldFigures (y .answer)) table′ → y .greatest ≡ greatestAfter (responsesOf s (length old)) s → (x ≡ y) × (table ≡ table′)
+  figures-unique x y p h q g =
+      (ap₂ (λ a m. record { answer = a; greatest = m }) (figures-told (x .answer) (y .answer) (p .0 ∙ sym (q .0))) (h ∙ sym g), p .1 ∙ sym (q .1))
 
 pub magnitude-unique : (z : ℤ) (x y : ℕ) → x ≡ natAbs z → y ≡ natAbs z → x ≡ y
 magnitude-unique z x y p q = p ∙ sym q

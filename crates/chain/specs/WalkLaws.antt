@@ -2,22 +2,25 @@
 use mathlib.Core.Path.{_≡_, refl, ap}
 use mathlib.Core.List.{List, [], _∷_}
 use Prim.Native.Nat.{ℕ, _+_, _-_, _*_, _≤_, _<_}
-use native.Mathlib.Nat.{mul-div-cancel}
+use native.Mathlib.Nat.{mul-div-cancel, mul-le-mul-right}
+use native.Mathlib.Decide.{ℕ-discrete}
 use native.Mathlib.Omega.{arith}
 use lib.ListN.{length, getD, take, drop, length-drop}
 use lib.Seq.{take-all, getD-drop}
 use Rattle.theory.specs.declared.Task.{Task}
 use Rattle.theory.specs.Model.{period, release}
-use Rattle.theory.specs.Chain.{Table, delay, bound}
+use borrow.Author.Tests.{eq-eqb, ne-eqb}
+use Rattle.theory.specs.Chain.{Table, nextRelease, delay, bound}
+use Rattle.theory.specs.ChainLaws.{next-later}
 use Rattle.chain.specs.declared.answer.HandOver.{HandOver}
 use Rattle.chain.specs.Answer.{firstOf, restOf}
-use Rattle.chain.specs.Steps.{mostWait, tasksIn, rowsIn, greatestIn, pairBound, HandedOver, Entry, Path}
+use Rattle.chain.specs.Steps.{mostWait, tasksIn, rowsIn, greatestIn, delayIn, pairBound, onward, ahead, HandedOver, Opened, Entry, Path}
 use Rattle.chain.specs.ReadLaws.{period-in, row-most, greatest-most}
-use Rattle.chain.specs.Largest.{along-entries, Small, SmallTask, delay-most, bound-most}
+use Rattle.chain.specs.Largest.{along-entries, Small, SmallTask, next-most, delay-most, bound-most}
 
--- The part of a chain from 1 on is its rest.
-pub part-rest : (chain : List ℕ) → take (length chain - 1) (drop 1 chain) ≡ restOf chain
-part-rest chain = take-all (length chain - 1) (drop 1 chain) (omega (arith, length-drop 1 chain))
+-- A part that goes to the end.
+pub part-from : (n : ℕ) (chain : List ℕ) → take (length chain - n) (drop n chain) ≡ drop n chain
+part-from n chain = take-all (length chain - n) (drop n chain) (omega (arith, length-drop n chain))
 
 module _ (ts : List Task) (table : Table) where
   pub delay-one : (chain : List ℕ) (k : ℕ) → length chain ≡ 1 → 0 < period ts (firstOf chain)
@@ -92,3 +95,58 @@ module _ {periods starts counts table : List ℕ} (ranks : List ℕ) where
         bound-most (tasksIn periods ranks) (greatestIn starts counts table) (firstOf chain) (restOf chain)
             (along-entries (SmallTask (tasksIn periods ranks) (greatestIn starts counts table)) chain (path .some) (λ j m. entry-small-task (getD chain j 0) (path .entry j m))),
       )
+
+-- ---- the first hand-over
+
+module _ {periods starts counts table : List ℕ} (ranks : List ℕ) {chain : List ℕ} (path : Path periods starts counts table chain) where
+  abbrev ts : List Task
+  ts = tasksIn periods ranks
+
+  -- A chain of one task: there is none,
+  pub opened-one : (k : ℕ) → length chain ≡ 1 → Opened periods ranks starts counts table chain (ahead chain) k (record { job = k; wait = 0 })
+  opened-one k e = rw (eq-eqb (length chain) 1 e) (record { delay-is = omega arith; meets = omega arith; near = omega arith })
+
+  -- a longer one: it leaves the first task behind.
+  pub opened-more : (k : ℕ) (next : HandOver) → 1 < length chain → HandedOver ts (rowsIn starts counts table) (firstOf chain) (getD chain 1 0) k next
+      → Opened periods ranks starts counts table chain (ahead chain) k next
+  opened-more k next more h = rw (ne-eqb (length chain) 1 (λ e. omega arith)) (record {
+    delay-is = delay-more ts (rowsIn starts counts table) chain k next more h;
+    meets = omega (arith, later, h .wait-is, h .job-is, ap (λ c. release ts c (next .job)) (getD-drop 1 chain 0 0));
+    near = omega (arith, later, h .wait-is, next-most ts (rowsIn starts counts table) (firstOf chain) (getD chain 1 0) (release ts (firstOf chain) k) (entry-small ranks _ (path .entry 0 (path .some))) consumer);
+  })
+    where
+      consumer : Small ts (rowsIn starts counts table) (getD chain 1 0)
+      consumer = entry-small ranks _ (path .entry 1 more)
+
+      later : release ts (firstOf chain) k ≤ nextRelease ts (rowsIn starts counts table) (firstOf chain) (getD chain 1 0) (release ts (firstOf chain) k)
+      later = next-later ts (rowsIn starts counts table) (firstOf chain) (getD chain 1 0) (release ts (firstOf chain) k) (consumer .period-positive)
+
+  -- What is left is a chain that can be walked, and is shorter where it was long.
+  pub ahead-path : Path periods starts counts table (ahead chain)
+  ahead-path = go (ℕ-discrete (length chain) 1)
+    where
+      go : Dec (length chain ≡ 1) → Path periods starts counts table (ahead chain)
+      go (yes e) = rw (eq-eqb (length chain) 1 e) path
+      go (no n) = rw (ne-eqb (length chain) 1 n) (path-rest ranks path (omega (arith, path .some)))
+
+  pub ahead-few : length chain ≤ 16 → (onward chain ≤ length chain) × (length (ahead chain) ≤ 15)
+  ahead-few few = go (ℕ-discrete (length chain) 1)
+    where
+      go : Dec (length chain ≡ 1) → (onward chain ≤ length chain) × (length (ahead chain) ≤ 15)
+      go (yes e) = rw (eq-eqb (length chain) 1 e) (omega arith, omega arith)
+      go (no n) = rw (ne-eqb (length chain) 1 n) (path .some, omega (arith, length-drop 1 chain))
+
+-- Readings that are handed over to one job end together, so the earlier one has the longer delay.
+pub opened-together : {periods ranks starts counts table chain rest : List ℕ} {j k : ℕ} {x y : HandOver} → k ≤ j
+    → Opened periods ranks starts counts table chain rest k x → Opened periods ranks starts counts table chain rest j y → x .job ≡ y .job
+    → delayIn periods ranks starts counts table chain j ≤ delayIn periods ranks starts counts table chain k
+opened-together {periods} {ranks} {starts} {counts} {table} {chain} {rest} {j} {k} l p q e = omega (
+  arith,
+  p .delay-is,
+  q .delay-is,
+  p .meets,
+  q .meets,
+  ap (delayIn periods ranks starts counts table rest) e,
+  ap (release (tasksIn periods ranks) (firstOf rest)) e,
+  mul-le-mul-right {m = k} {n = j} (period (tasksIn periods ranks) (firstOf chain)) l,
+)

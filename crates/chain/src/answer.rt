@@ -1,4 +1,5 @@
 // What the calls and the functions under them answer.
+use schedule::Totals;
 use sheet::Refusal;
 
 // The ticks from the release of the chain's first job to the finish of its last.
@@ -27,6 +28,25 @@ pub enum Bound {
 pub enum Margin {
     Ticks(i32),
     No(Refusal),
+}
+
+// What a report says: H, J and the idle ticks, the worst figure, the quick bound, and the margin under the default limit.
+pub struct Summary {
+    pub totals: Totals,
+    pub worst: Figure,
+    pub bound: u32,
+    pub margin: i32,
+}
+
+pub enum Figures {
+    Of(Summary),
+    No(Refusal),
+}
+
+// The same, with the greatest response of each task.
+pub struct TaskFigures {
+    pub answer: Figures,
+    pub greatest: [u32; 16],
 }
 
 // The job of the next task that a reading goes to, and how long it is from the producer's release to its own.

@@ -6,8 +6,11 @@ mod answer;
 pub use answer::Bound;
 pub use answer::Delay;
 pub use answer::Figure;
+pub use answer::Figures;
 use answer::HandOver;
 pub use answer::Margin;
+pub use answer::Summary;
+pub use answer::TaskFigures;
 pub use answer::Worst;
 use schedule::Responses;
 use schedule::Sizes;
@@ -22,11 +25,11 @@ ghost use Rattle.theory.specs.Responses.{hyperperiod, jobs};
 ghost use Rattle.theory.specs.Model.{period, release};
 ghost use Rattle.theory.specs.Chain.{bound};
 ghost use Rattle.sheet.specs.Sound.{Sound};
-ghost use Rattle.schedule.specs.Answer.{mostTicks, tasksOf};
+ghost use Rattle.schedule.specs.Answer.{mostTicks, tasksOf, responsesOf, greatestAfter};
 ghost use Rattle.schedule.specs.Steps.{refusalOf};
-ghost use Rattle.chain.specs.Answer.{chainOf, firstOf, restOf, delayAt, figureOf, quickBound, less, mostLimit, delayOf, worstOf, boundOf, marginOf, defaultMarginOf, leaves, toldDelay, toldWorst, toldBound, toldMargin};
+ghost use Rattle.chain.specs.Answer.{chainOf, firstOf, restOf, delayAt, figureOf, quickBound, less, mostLimit, delayOf, worstOf, boundOf, marginOf, defaultMarginOf, figuresOf, leaves, toldDelay, toldWorst, toldBound, toldMargin, toldFigures};
 ghost use Rattle.schedule.specs.Steps.{Holds};
-ghost use Rattle.chain.specs.Steps.{mostWait, mostFigure, mostRelease, Taken, tasksIn, rowsIn, greatestIn, delayIn, HandedOver, Row, Entry, Path, Greatest, pairBound, Gathered, responsesRefusal, worstRefusal};
+ghost use Rattle.chain.specs.Steps.{mostWait, mostFigure, mostRelease, Taken, tasksIn, rowsIn, greatestIn, delayIn, onward, ahead, HandedOver, Opened, Row, Entry, Path, Greatest, pairBound, Gathered, responsesRefusal, worstRefusal};
 
 // "margin limit 0 to 4,000,000"
 const MOST_LIMIT: u32 = 4000000;
@@ -67,7 +70,12 @@ fn response_of(i: usize, k: u32, starts: &[u32; 16], counts: &[u32; 16], table: 
     requires { ⌜ Row (now starts) (now counts) (now table) i ⌝ }
     ensures { λ r. ⌜ r ≡ rowsIn (now (starts .entry)) (now (counts .entry)) (now (table .entry)) i k ⌝ }
 {
-    let at = starts[i] + k % counts[i];
+    let count = counts[i];
+    let mut job = k;
+    if count <= job {
+        job = k % count;
+    }
+    let at = starts[i] + job;
     table[at as usize]
 }
 
@@ -122,7 +130,40 @@ fn walk(
     next.wait + walk(&chain[1..], next.job, periods, ranks, starts, counts, table)
 }
 
-// The greatest delay over the first task's jobs, and the smallest release that gives it.
+// How much of the chain the first hand-over leaves behind: its first task, or nothing where that is all.
+fn onward(chain: &[u8]) -> usize
+    ensures { λ r. ⌜ r ≡ onward (now (chain .entry)) ⌝ }
+{
+    if chain.len() == 1 {
+        return 0;
+    }
+    1
+}
+
+// The first hand-over of the reading of job k; on a chain of one task the reading stays where it is.
+fn opening(
+    chain: &[u8],
+    k: u32,
+    periods: &[u32; 16],
+    ranks: &[u8; 16],
+    starts: &[u32; 16],
+    counts: &[u32; 16],
+    table: &[u32],
+) -> HandOver
+    requires { ⌜ Path (now periods) (now starts) (now counts) (now table) (now chain) ⌝ }
+    requires { ⌜ release (tasksIn (now periods) (now ranks)) (firstOf (now chain)) k ≤ mostRelease ⌝ }
+    ensures { λ r. ⌜ Opened (now (periods .entry)) (now (ranks .entry)) (now (starts .entry)) (now (counts .entry)) (now (table .entry)) (now (chain .entry)) (ahead (now (chain .entry))) k r ⌝ }
+{
+    let p = chain[0] as usize;
+    if chain.len() == 1 {
+        return HandOver { job: k, wait: 0 };
+    }
+    let c = chain[1] as usize;
+    hand_over(p, c, k, periods, ranks, starts, counts, table)
+}
+
+// The greatest delay over the first task's jobs, and the smallest release that gives it. Readings that are handed over to one job
+// end together, so of these only the first is followed.
 fn worst_along(
     chain: &[u8],
     periods: &[u32; 16],
@@ -137,14 +178,29 @@ fn worst_along(
 {
     let p = chain[0] as usize;
     let n = counts[p];
+    let from = onward(chain);
     let mut ticks = 0u32;
     let mut at = 0u32;
+    let mut followed = 0u32;
     let mut k = 0u32;
     while k < n {
-        let delay = walk(chain, k, periods, ranks, starts, counts, table);
-        if ticks < delay {
-            ticks = delay;
-            at = k;
+        let next = opening(chain, k, periods, ranks, starts, counts, table);
+        if next.job + 1 != followed {
+            followed = next.job + 1;
+            let delay = next.wait
+                + walk(
+                    &chain[from..],
+                    next.job,
+                    periods,
+                    ranks,
+                    starts,
+                    counts,
+                    table,
+                );
+            if ticks < delay {
+                ticks = delay;
+                at = k;
+            }
         }
         k += 1;
     }
@@ -356,11 +412,11 @@ pub fn margin(s: Sheet, limit: u32, table: &mut [u32]) -> Margin
     ensures { λ r. ⌜ toldMargin r ≡ marginOf s limit (length (now (table .entry))) ⌝ }
     ensures { λ _. ⌜ now (table .exit) ≡ leaves (marginOf s limit (length (now (table .entry)))) (tasksOf s) (now (table .entry)) ⌝ }
 {
-    let z = schedule::sizes(s);
-    let Sizes::Of(_) = z else {
-        return Margin::No(sizes_refusal(z));
-    };
     if MOST_LIMIT < limit {
+        let z = schedule::sizes(s);
+        let Sizes::Of(_) = z else {
+            return Margin::No(sizes_refusal(z));
+        };
         return Margin::No(Refusal::Number(13));
     }
     let w = worst(s, &mut *table);
@@ -376,6 +432,38 @@ pub fn default_margin(s: Sheet, table: &mut [u32]) -> Margin
     ensures { λ _. ⌜ now (table .exit) ≡ leaves (defaultMarginOf s (length (now (table .entry)))) (tasksOf s) (now (table .entry)) ⌝ }
 {
     margin(s, DEFAULT_LIMIT, &mut *table)
+}
+
+// What a report says, from one filling of the table, with "R, the greatest response" of each task in its place; zeros where it is
+// refused.
+pub fn figures(s: Sheet, table: &mut [u32]) -> TaskFigures
+    ensures { λ r. ⌜ toldFigures (r .answer) ≡ figuresOf s (length (now (table .entry))) ⌝ }
+    ensures { λ _. ⌜ now (table .exit) ≡ leaves (figuresOf s (length (now (table .entry)))) (tasksOf s) (now (table .entry)) ⌝ }
+    ensures { λ r. ⌜ r .greatest ≡ greatestAfter (responsesOf s (length (now (table .entry)))) s ⌝ }
+{
+    let filled = schedule::task_responses(s, &mut *table);
+    let answer = filled.answer;
+    let greatest = filled.greatest;
+    let Responses::Table(totals) = answer else {
+        let refusal = responses_refusal(answer);
+        return TaskFigures {
+            answer: Figures::No(refusal),
+            greatest,
+        };
+    };
+    let worst = worst_in(s, totals.hyperperiod, &*table);
+    let bound = bound_in(s, totals.hyperperiod, &*table);
+    let margin = less_of(DEFAULT_LIMIT, worst.ticks);
+    let summary = Summary {
+        totals,
+        worst,
+        bound,
+        margin,
+    };
+    TaskFigures {
+        answer: Figures::Of(summary),
+        greatest,
+    }
 }
 
 // How far a margin is from zero.

@@ -1,9 +1,7 @@
 // The report of one timing sheet, read from standard input: document 01's lines, or the refusal.
-use chain::Bound;
 use chain::Figure;
-use chain::Margin;
-use chain::Worst;
-use schedule::Responses;
+use chain::Figures;
+use chain::Summary;
 use schedule::Totals;
 use sheet::Refusal;
 use sheet::Sheet;
@@ -76,50 +74,19 @@ fn print_chain(s: Sheet) {
 }
 
 // "the worst figure and its smallest release; the bound; the margin under the default limit"
-fn print_figures(figure: Figure, bound: u32, margin: i32) {
-    print_number(b"worst ", figure.ticks);
-    print_number(b" from ", figure.release);
+fn print_figures(worst: Figure, bound: u32, margin: i32) {
+    print_number(b"worst ", worst.ticks);
+    print_number(b" from ", worst.release);
     print_number(b"\nbound ", bound);
     print_signed(b"\nmargin ", margin);
     io::write_all(1, b"\n");
 }
 
-// The figures of the chain, and then everything; a refusal alone.
-fn report_chain(s: Sheet, totals: Totals, greatest: [u32; 16], table: &mut [u32]) {
-    let w = chain::worst(s, &mut *table);
-    let Worst::Is(figure) = w else {
-        return refuse_worst(w);
-    };
-    let b = chain::bound(s, &mut *table);
-    let Bound::Ticks(bound) = b else {
-        return refuse_bound(b);
-    };
-    let m = chain::default_margin(s, &mut *table);
-    let Margin::Ticks(margin) = m else {
-        return refuse_margin(m);
-    };
-    print_totals(s, totals);
+fn print_summary(s: Sheet, summary: Summary, greatest: [u32; 16]) {
+    print_totals(s, summary.totals);
     print_tasks(s, greatest);
     print_chain(s);
-    print_figures(figure, bound, margin);
-}
-
-fn refuse_worst(w: Worst) {
-    if let Worst::No(r) = w {
-        print_refusal(r);
-    }
-}
-
-fn refuse_bound(b: Bound) {
-    if let Bound::No(r) = b {
-        print_refusal(r);
-    }
-}
-
-fn refuse_margin(m: Margin) {
-    if let Margin::No(r) = m {
-        print_refusal(r);
-    }
+    print_figures(summary.worst, summary.bound, summary.margin);
 }
 
 fn refuse_sheet(v: Verdict) {
@@ -128,12 +95,13 @@ fn refuse_sheet(v: Verdict) {
     }
 }
 
-fn refuse_responses(a: Responses) {
-    if let Responses::No(r) = a {
+fn refuse_figures(a: Figures) {
+    if let Figures::No(r) = a {
         print_refusal(r);
     }
 }
 
+// Everything is worked out before the first line is printed, so that a refusal stands alone.
 fn report(bytes: &[u8], table: &mut [u32]) {
     let r = sheet::read(bytes);
     let v = r.verdict;
@@ -141,13 +109,13 @@ fn report(bytes: &[u8], table: &mut [u32]) {
         return refuse_sheet(v);
     };
     let s = r.sheet;
-    let t = schedule::task_responses(s, &mut *table);
-    let answer = t.answer;
-    let Responses::Table(totals) = answer else {
-        return refuse_responses(answer);
+    let f = chain::figures(s, table);
+    let answer = f.answer;
+    let Figures::Of(summary) = answer else {
+        return refuse_figures(answer);
     };
-    let greatest = t.greatest;
-    report_chain(s, totals, greatest, table);
+    let greatest = f.greatest;
+    print_summary(s, summary, greatest);
 }
 
 // What lies past the 95th byte never changes the reader's answer, so a buffer of 4,096 serves inputs of any length.

@@ -12,7 +12,7 @@ use Rattle.theory.specs.Chain.{bound}
 use Rattle.chain.specs.Answer.{firstOf, restOf}
 use Rattle.chain.specs.Steps.{mostWait, tasksIn, greatestIn, Path}
 use Rattle.chain.specs.Largest.{pair-most}
-use Rattle.chain.specs.WalkLaws.{part-rest, bound-one, bound-more, entry-small-task, path-rest, path-bound}
+use Rattle.chain.specs.WalkLaws.{part-from, bound-one, bound-more, entry-small-task, path-rest, path-bound}
 use Rattle.chain.proofs.bound_along.Reads as bound-along
 use Rattle.chain.proofs.bound_along.Kinds as bound-along-kinds
 use Rattle.chain.proofs.pair_bound.Reads as pair-bound-reads
@@ -104,14 +104,14 @@ bound-along-bound-along-requires : (t : ℕ) → bound-along-lts.Need-bound-alon
 bound-along-bound-along-requires t c κs =
     let h = c .before in
     let s = start t h in
-    rw (part-rest (chain t h)) (
+    rw (part-from 1 (chain t h)) (
       omega (arith, length-drop 1 (chain t h), s .pre .0, more t h),
       (rest-path t h, omega (arith, length-drop 1 (chain t h), s .pre .1 .1)),
     )
 
 rest-is : (t : ℕ) (c : bound-along-lts.After-bound-along (claims t) (bound-along-at t) bound-along.Post)
     → let h = c .before .before in c .bound-along .result ≡ bound (ts t h) (R t h) (firstOf (restOf (chain t h))) (restOf (restOf (chain t h)))
-rest-is t c = rw (part-rest (chain t (c .before .before))) at (c .bound-along .ensures)
+rest-is t c = rw (part-from 1 (chain t (c .before .before))) at (c .bound-along .ensures)
 
 bound-along-add-result : (t : ℕ) → bound-along-lts.Need-add-result (claims t) (bound-along-at t) bound-along.Post
 bound-along-add-result t c =

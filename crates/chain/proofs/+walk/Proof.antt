@@ -14,7 +14,7 @@ use Rattle.theory.specs.Chain.{Table, delay}
 use Rattle.chain.specs.Answer.{firstOf, restOf}
 use Rattle.chain.specs.Steps.{mostWait, tasksIn, rowsIn, Path}
 use Rattle.chain.specs.Largest.{next-most}
-use Rattle.chain.specs.WalkLaws.{part-rest, delay-one, delay-more, entry-small, path-rest, path-delay}
+use Rattle.chain.specs.WalkLaws.{part-from, delay-one, delay-more, entry-small, path-rest, path-delay}
 use Rattle.chain.proofs.walk.Reads as walk
 use Rattle.chain.proofs.walk.Kinds as walk-kinds
 use Rattle.chain.proofs.hand_over.Reads as hand-over-reads
@@ -109,7 +109,7 @@ walk-walk-requires : (t : ℕ) → walk-lts.Need-walk-requires (claims t) (walk-
 walk-walk-requires t c κs =
     let h = c .before in
     let s = start t h in
-    rw (part-rest (chain t h)) (
+    rw (part-from 1 (chain t h)) (
       omega (arith, length-drop 1 (chain t h), s .pre .0, more t h),
       (
         rest-path t h,
@@ -120,7 +120,7 @@ walk-walk-requires t c κs =
 walk-is : (t : ℕ) (c : walk-lts.After-struct-known (claims t) (walk-at t) walk.Post)
     → let h = c .before .before .before in
     c .before .walk .result ≡ delay (ts t h) (rows t h) (firstOf (restOf (chain t h))) (restOf (restOf (chain t h))) (release (ts t h) (firstOf (restOf (chain t h))) (h .hand-over .result .job))
-walk-is t c = rw (part-rest (chain t (c .before .before .before))) at (c .before .walk .ensures)
+walk-is t c = rw (part-from 1 (chain t (c .before .before .before))) at (c .before .walk .ensures)
 
 walk-add-result : (t : ℕ) → walk-lts.Need-add-result (claims t) (walk-at t) walk.Post
 walk-add-result t c =

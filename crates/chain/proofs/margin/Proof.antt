@@ -1,4 +1,4 @@
--- The limit is judged after H and J and before the table; then it is taken less the worst figure, which is small.
+-- A limit over 4,000,000 is refused once H and J are judged; one that is allowed is taken less the worst figure, which is small.
 use mathlib.Core.Path.{_≡_, sym, ap, _∙_}
 use native.Mathlib.Omega.{arith}
 use lib.ListN.{length}
@@ -17,15 +17,15 @@ use Rattle.chain.proofs.margin.Statement.{statement}
 use Rattle.chain.proofs.margin.Tie as tie
 
 -- H and J are within their limits.
-fits : (c : tie.After-enum-told) → sizesOf (c .before .before .before .before .args .s) ≡ given (c .enum-told .given .0 .0)
+fits : (c : tie.After-enum-told) → sizesOf (c .before .before .before .before .before .args .s) ≡ given (c .enum-told .given .0 .0)
 fits c = sym (c .before .before .sizes .ensures) ∙ ap toldSize (c .enum-told .given .1)
 
-asked : (c : tie.Else1) → let a = c .before .before .before .before .before .args in
+asked : (c : tie.Else1) → let a = c .before .before .args in
     marginOf (a .s) (a .limit) (length (a .table .now)) ≡ after (worstOf (a .s) (length (a .table .now))) (λ figure. given (less (a .limit) (figure .ticks)))
-asked c = let a = c .before .before .before .before .before .args in margin-asked (a .s) (length (a .table .now)) (fits (c .before)) (a .limit) (c .if1 .left)
+asked c = let a = c .before .before .args in margin-asked (a .s) (length (a .table .now)) (a .limit) (c .if1 .left)
 
 -- The worst figure is known.
-known : (c : tie.After-w) → let a = c .before .before .before .before .before .before .before .before .before .before .before .args in worstOf (a .s) (length (a .table .now)) ≡ given (c .w .given .0 .0)
+known : (c : tie.After-w) → let a = c .before .before .before .before .before .before .before .before .args in worstOf (a .s) (length (a .table .now)) ≡ given (c .w .given .0 .0)
 known c = sym (c .before .before .before .before .worst .ensures .0) ∙ ap toldWorst (c .w .given .1)
 
 sizes-requires : tie.Need-sizes-requires
@@ -43,7 +43,7 @@ sizes-refusal-requires c κs = search needs
 returns : tie.Need-returns
 unfolding marginOf
 returns c =
-    let a = c .before .before .before .before .before .args in
+    let a = c .before .before .before .before .before .before .args in
     let no = c .before .enum-told2 .given .1 in
     let e : sizesOf (a .s) ≡ refusal (c .sizes-refusal .result) =
     sym (c .before .before .before .sizes .ensures) ∙ ap toldSize no ∙ ap refusal (sym (c .sizes-refusal .ensures ∙ ap refusalOf no)) in
@@ -52,7 +52,7 @@ returns c =
 returns-2 : tie.Need-returns-2
 returns-2 c =
     let a = c .before .before .before .before .before .args in
-    ended-number 13 (tasksOf (a .s)) (a .table .now) (omega arith) (margin-over (a .s) (length (a .table .now)) (fits (c .before)) (a .limit) (c .if1 .taken))
+    ended-number 13 (tasksOf (a .s)) (a .table .now) (omega arith) (margin-over (a .s) (length (a .table .now)) (fits c) (a .limit) (c .before .before .before .if1 .taken))
 
 worst-requires : tie.Need-worst-requires
 worst-requires c κs = search needs
@@ -71,7 +71,7 @@ same-length c = c .before .before .before .before .before .worst .kept .1 .0
 
 returns-3 : tie.Need-returns-3
 returns-3 c =
-    let a = c .before .before .before .before .before .before .before .before .before .before .before .before .args in
+    let a = c .before .before .before .before .before .before .before .before .before .args in
     let w = c .before .before .before .before .before .worst in
     let no = c .before .enum-told3 .given .1 in
     rw (asked (c .before .before .before .before .before .before .before))
@@ -80,7 +80,7 @@ returns-3 c =
 
 less-of-requires : tie.Need-less-of-requires
 less-of-requires c κs =
-    let a = c .before .before .before .before .before .before .before .before .before .before .before .before .args in
+    let a = c .before .before .before .before .before .before .before .before .before .args in
     let g = worst-given (a .s) (length (a .table .now)) (known (c .before)) in
     (c .before .before .before .before .before .before .before .if1 .left, omega (arith, ap (λ f. f .ticks) (g .1), worst-most (g .0)))
 
@@ -89,7 +89,7 @@ same-length-2 c = c .before .before .before .before .before .before .worst .kept
 
 returns-4 : tie.Need-returns-4
 returns-4 c =
-    let a = c .before .before .before .before .before .before .before .before .before .before .before .before .before .args in
+    let a = c .before .before .before .before .before .before .before .before .before .before .args in
     let read = toZ-ofZ w32 (c .less-of .result) (record { sfits = c .less-of .ok }) in
     rw (asked (c .before .before .before .before .before .before .before .before), read)
     (ended-given (tasksOf (a .s)) (a .table .now) _ (known (c .before .before)) (ap given (sym (c .less-of .ensures))) (c .before .before .before .before .before .before .worst .ensures .1))

@@ -1,9 +1,29 @@
--- The place in the row is the job's number modulo H/T, which lies in the row.
+-- The place in the row is the job's number modulo H/T, which is the number itself where it lies in the row.
+use mathlib.Core.Path.{_≡_, sym, ap, _∙_}
+use mathlib.Core.Logic.{⊎-elim}
+use Prim.Native.Nat.{_+_, _%_, _<_}
+use native.Mathlib.Nat.{mod-eq-of-lt}
 use native.Mathlib.Omega.{arith}
+use lib.ListN.{getD}
 use borrow.Author.Needs.{needs}
 use Rattle.chain.specs.ReadLaws.{row-place}
 use Rattle.chain.proofs.response_of.Statement.{statement}
 use Rattle.chain.proofs.response_of.Tie as tie
+
+job-is : (c : tie.Joined1) → let a = c .before .before .args in c .if1 .job ≡ a .k % getD (a .counts .now) (a .i) 0
+job-is c = ⊎-elim (λ w. w .1) (λ w. w .1 ∙ sym (mod-eq-of-lt (omega (arith, w .0 .left)))) (c .if1 .came)
+
+place : (c : tie.After-row-known) → let a = c .before .before .before .before .args in c .before .before .if1 .job < getD (a .counts .now) (a .i) 0
+place c = let s = c .before .before .before .before in omega (arith, job-is (c .before .before), row-place (s .pre) (s .args .k))
+
+mul-count : tie.Need-mul-count
+mul-count c = search needs
+
+element-copy-out-count : tie.Need-element-copy-out-count
+element-copy-out-count c = search needs
+
+rem-job : tie.Need-rem-job
+rem-job c = search needs
 
 mul-at : tie.Need-mul-at
 mul-at c = search needs
@@ -11,39 +31,32 @@ mul-at c = search needs
 element-copy-out-at : tie.Need-element-copy-out-at
 element-copy-out-at c = search needs
 
-mul-at-2 : tie.Need-mul-at-2
-mul-at-2 c = search needs
-
-element-copy-out-at-2 : tie.Need-element-copy-out-at-2
-element-copy-out-at-2 c = search needs
-
-rem-at : tie.Need-rem-at
-rem-at c = search needs
-
 add-at : tie.Need-add-at
-add-at c = omega (arith, row-place (c .before .before .pre) (c .before .before .args .k))
+add-at c = omega (arith, place c, c .before .before .before .before .pre)
 
 cast-result : tie.Need-cast-result
-cast-result c = omega (arith, row-place (c .before .before .pre) (c .before .before .args .k))
+cast-result c = omega (arith, place c, c .before .before .before .before .pre)
 
 mul-result : tie.Need-mul-result
-mul-result c = omega (arith, row-place (c .before .before .pre) (c .before .before .args .k))
+mul-result c = omega (arith, place c, c .before .before .before .before .pre)
 
 shared-slice-read-result : tie.Need-shared-slice-read-result
-shared-slice-read-result c = omega (arith, row-place (c .before .before .before .pre) (c .before .before .before .args .k))
+shared-slice-read-result c = omega (arith, place (c .before), c .before .before .before .before .before .pre)
 
 returns : tie.Need-returns
-returns c = search needs
+returns c =
+    let a = c .before .before .before .before .before .args in
+    ap (λ k. getD (a .table .now) (getD (a .starts .now) (a .i) 0 + k) 0) (job-is (c .before .before .before))
 
 pub response-of-spec : {M : Type 1} → statement M
 response-of-spec =
     tie.close
     (tie.spec
+    mul-count
+    element-copy-out-count
+    rem-job
     mul-at
     element-copy-out-at
-    mul-at-2
-    element-copy-out-at-2
-    rem-at
     add-at
     cast-result
     mul-result

@@ -1,24 +1,30 @@
-use mathlib.Core.Path.{sym, ap, _∙_, subst}
+-- Of the readings so far the longest delay is kept with its first release; one that is handed over to the job of the last one followed cannot be longer.
+use mathlib.Core.Path.{_≡_, sym, ap, _∙_, subst}
+use mathlib.Core.List.{List}
 use mathlib.Core.Logic.{⊎-elim}
-use Prim.Native.Nat.{ℕ, _-_, _*_, _≤_}
-use native.Mathlib.Nat.{le-trans, mul-le-mul-right}
+use Prim.Native.Nat.{ℕ, _+_, _-_, _*_, _≤_}
+use native.Mathlib.Nat.{le-refl, le-trans, mul-le-mul, mul-le-mul-right}
 use native.Mathlib.Omega.{arith}
-use lib.ListN.{getD}
+use lib.ListN.{length, getD, take, drop}
 use borrow.Author.Needs.{needs}
+use Rattle.theory.specs.Model.{release}
 use Rattle.schedule.specs.Answer.{mostTicks}
 use Rattle.chain.specs.Answer.{firstOf}
-use Rattle.chain.specs.Steps.{delayIn, Entry}
+use Rattle.chain.specs.Steps.{mostWait, tasksIn, delayIn, ahead, Entry, Path}
 use Rattle.chain.specs.ReadLaws.{release-in}
-use Rattle.chain.specs.GreatestLaws.{GreatestTo, greatest-none, greatest-new, greatest-kept, greatest-first}
+use Rattle.chain.specs.WalkLaws.{part-from, ahead-path, ahead-few, path-delay}
+use Rattle.chain.specs.GreatestLaws.{GreatestTo, greatest-first}
+use Rattle.chain.specs.FollowLaws.{Followed, followed-none, followed-again, followed-longer, followed-shorter}
 use Rattle.chain.proofs.worst_along.Statement.{statement}
 use Rattle.chain.proofs.worst_along.Tie as tie
 
 abbrev Inv-loop : tie.InvT-loop
-Inv-loop chain periods ranks starts counts table p n ticks₀ at₀ k₀ ticks at k =
-    (k ≤ n) × GreatestTo (delayIn periods ranks starts counts table chain) k ticks at
+Inv-loop chain periods ranks starts counts table p n from ticks₀ at₀ followed₀ k₀ ticks at followed k =
+    (k ≤ n) × Followed periods ranks starts counts table chain (ahead chain) k ticks at followed
 
 abbrev μ-loop : tie.MeasureT-loop
-μ-loop chain periods ranks starts counts table p n ticks₀ at₀ k₀ ticks at k = n - k
+μ-loop chain periods ranks starts counts table p n from ticks₀ at₀ followed₀ k₀ ticks at followed k =
+    n - k
 
 -- The first task on the chain, and where its releases lie.
 module _ (s : tie.Start Inv-loop μ-loop) where
@@ -30,6 +36,56 @@ module _ (s : tie.Start Inv-loop μ-loop) where
 
   release-most : (k : ℕ) → k ≤ getD (s .args .counts .now) first 0 → k * getD (s .args .periods .now) first 0 ≤ mostTicks
   release-most k l = le-trans (mul-le-mul-right (getD (s .args .periods .now) first 0) l) (s .pre .1 .1)
+
+-- Once the reading of job k is opened: the chain that is left, and the whole delay.
+module _ (c : tie.After-struct-known Inv-loop μ-loop) where
+  abbrev start : tie.Start Inv-loop μ-loop
+  start = c .before .before .before .before .before .before .before .before .before
+
+  abbrev chain : List ℕ
+  chain = start .args .chain .now
+
+  abbrev k : ℕ
+  k = c .before .before .before .loop .k
+
+  abbrev delays : List ℕ → ℕ → ℕ
+  delays = delayIn (start .args .periods .now) (start .args .ranks .now) (start .args .starts .now) (start .args .counts .now) (start .args .table .now)
+
+  abbrev from : ℕ
+  from = c .before .before .before .before .onward .result
+
+  left : take (length chain - from) (drop from chain) ≡ ahead chain
+  left = part-from from chain ∙ ap (λ n. drop n chain) (c .before .before .before .before .onward .ensures)
+
+  whole : (rest : ℕ) → rest ≡ delays (take (length chain - from) (drop from chain)) (c .before .opening .result .job) → c .before .opening .result .wait + rest ≡ delays chain k
+  whole rest e = ap (λ x. c .before .opening .result .wait + x) (e ∙ ap (λ part. delays part (c .before .opening .result .job)) left) ∙ sym (c .before .opening .ensures .delay-is)
+
+  from-within : from ≤ length chain
+  from-within = omega (arith, c .before .before .before .before .onward .ensures, ahead-few (start .args .ranks .now) (start .pre .0) (start .pre .1 .0))
+
+  onward-path : Path (start .args .periods .now) (start .args .starts .now) (start .args .counts .now) (start .args .table .now) (ahead chain)
+  onward-path = ahead-path (start .args .ranks .now) (start .pre .0)
+
+  -- The next release is not far,
+  near : release (tasksIn (start .args .periods .now) (start .args .ranks .now)) (firstOf (ahead chain)) (c .before .opening .result .job) ≤ mostTicks + mostWait
+  near = omega (
+    arith,
+    c .before .opening .ensures .meets,
+    c .before .opening .ensures .near,
+    release-in (start .args .periods .now) (start .args .ranks .now) (first start) (entry start .row .known) k,
+    release-most start k (c .before .before .before .loop .inv .0),
+  )
+
+  -- and so is its job.
+  job-most : c .before .opening .result .job ≤ mostTicks + mostWait
+  job-most =
+      let next = onward-path .entry 0 (onward-path .some) in
+      omega (
+        arith,
+        near,
+        release-in (start .args .periods .now) (start .args .ranks .now) (firstOf (ahead chain)) (next .row .known) (c .before .opening .result .job),
+        mul-le-mul (le-refl (c .before .opening .result .job)) (next .period-positive),
+      )
 
 shared-slice-read-p : tie.Need-shared-slice-read-p Inv-loop μ-loop
 shared-slice-read-p c = search needs
@@ -43,56 +99,87 @@ mul-n c = omega (arith, entry (c .before .before .before) .row .known)
 element-copy-out-n : tie.Need-element-copy-out-n Inv-loop μ-loop
 element-copy-out-n c = entry (c .before .before .before) .row .known
 
+onward-requires : tie.Need-onward-requires Inv-loop μ-loop
+onward-requires c κs = search needs
+
 loop-holds : tie.Need-loop-holds Inv-loop μ-loop
-loop-holds c = (omega arith, greatest-none _)
+loop-holds c = (omega arith, followed-none _ _ _ _ _ _ _)
+
+opening-requires : tie.Need-opening-requires Inv-loop μ-loop
+opening-requires c κs =
+    let s = c .before .before .before .before .before .before .before in
+    let k = c .before .loop .k in
+    (s .pre .0, omega (arith, release-in (s .args .periods .now) (s .args .ranks .now) (first s) (entry s .row .known) k, release-most s k (c .before .loop .inv .0)))
+
+add-if1 : tie.Need-add-if1 Inv-loop μ-loop
+add-if1 c = omega (arith, job-most c)
+
+add-followed : tie.Need-add-followed Inv-loop μ-loop
+add-followed c = omega (arith, job-most (c .before .before))
+
+sub-walk : tie.Need-sub-walk Inv-loop μ-loop
+sub-walk c =
+    let b = c .before .before in
+    omega (arith, b .before .before .before .before .onward .ensures, ahead-few (start b .args .ranks .now) (start b .pre .0) (start b .pre .1 .0))
+
+part-walk-start : tie.Need-part-walk-start Inv-loop μ-loop
+part-walk-start c = from-within (c .before .before)
+
+part-walk-end : tie.Need-part-walk-end Inv-loop μ-loop
+part-walk-end c = search needs
 
 walk-requires : tie.Need-walk-requires Inv-loop μ-loop
 walk-requires c κs =
-    let s = c .before .before .before .before .before .before in
-    let k = c .before .loop .k in (
-      s .pre .0,
-      omega (arith, release-in (s .args .periods .now) (s .args .ranks .now) (first s) (entry s .row .known) k, release-most s k (c .before .loop .inv .0), s .pre .1 .0),
-    )
+    let b = c .before .before .before in
+    rw (left b) (onward-path b, omega (arith, near b, ahead-few (start b .args .ranks .now) (start b .pre .0) (start b .pre .1 .0)))
+
+add-delay : tie.Need-add-delay Inv-loop μ-loop
+add-delay c =
+    let b = c .before .before .before .before .before in
+    omega (arith, whole b (c .before .walk .result) (c .before .walk .ensures), path-delay (start b .args .ranks .now) (start b .pre .0) (release (tasksIn (start b .args .periods .now) (start b .args .ranks .now)) (first (start b)) (k b)), start b .pre .1 .0)
 
 add-k : tie.Need-add-k Inv-loop μ-loop
-add-k c = let s = c .before .before .before .before .before .before .before .before in omega (arith, c .before .before .before .loop .inv .0, entry s .row .few, c .before .before .loop-test .taken)
+add-k c = let s = start (c .before) in omega (arith, c .before .before .before .before .loop .inv .0, entry s .row .few, c .before .before .before .loop-test .taken)
 
 loop-less : tie.Need-loop-less Inv-loop μ-loop
 loop-less c = search needs
 
 loop-again : tie.Need-loop-again Inv-loop μ-loop
 loop-again c =
-    let s = c .before .before .before .before .before .before .before .before in
-    let l = c .before .before .before .loop in
-    let a = s .args in
-    let delays = delayIn (a .periods .now) (a .ranks .now) (a .starts .now) (a .counts .now) (a .table .now) (a .chain .now) in (
-      omega (arith, c .before .before .loop-test .taken),
+    let b = c .before in
+    let l = b .before .before .before .loop in
+    let o = b .before .opening .ensures in (
+      omega (arith, b .before .before .loop-test .taken),
       ⊎-elim
-          (λ w. rw (w .1 ∙ c .before .walk .ensures, w .2) (greatest-new delays (l .k) (l .ticks) (l .at) (l .inv .1) (omega (arith, w .0 .taken, c .before .walk .ensures))))
-          (λ w. rw (w .1, w .2) (greatest-kept delays (l .k) (l .ticks) (l .at) (l .inv .1) (omega (arith, w .0 .left, c .before .walk .ensures))))
+          (λ w. rw (w .6 ∙ whole b (w .3 .result) (w .3 .ensures), w .7, w .8) (followed-longer _ _ _ _ _ _ _ (l .inv .1) o (omega (arith, w .5 .taken, whole b (w .3 .result) (w .3 .ensures)))))
+          (λ v.
+          ⊎-elim
+          (λ w. rw (w .6, w .7, w .8) (followed-shorter _ _ _ _ _ _ _ (l .inv .1) o (omega (arith, w .5 .left, whole b (w .3 .result) (w .3 .ensures)))))
+          (λ w. rw (w .1, w .2, w .3) (followed-again _ _ _ _ _ _ _ (l .inv .1) o (omega (arith, w .0 .left))))
+          v)
           (c .if1 .came),
     )
 
 mul-release : tie.Need-mul-release Inv-loop μ-loop
-mul-release c = omega (arith, entry (c .before .before .before .before .before .before) .row .known)
+mul-release c = omega (arith, entry (c .before .before .before .before .before .before .before) .row .known)
 
 element-copy-out-release : tie.Need-element-copy-out-release Inv-loop μ-loop
-element-copy-out-release c = entry (c .before .before .before .before .before .before) .row .known
+element-copy-out-release c = entry (c .before .before .before .before .before .before .before) .row .known
 
 mul-release-2 : tie.Need-mul-release-2 Inv-loop μ-loop
 mul-release-2 c =
-    let s = c .before .before .before .before .before .before .before in
+    let s = c .before .before .before .before .before .before .before .before in
     let l = c .before .before .loop in
-    omega (arith, release-most s (l .at) (omega (arith, l .inv .0, l .inv .1 .early)))
+    omega (arith, release-most s (l .at) (omega (arith, l .inv .0, l .inv .1 .greatest .early)))
 
 returns : tie.Need-returns Inv-loop μ-loop
 returns c =
-    let s = c .before .before .before .before .before .before .before in
+    let s = c .before .before .before .before .before .before .before .before in
     let l = c .before .before .loop in
     let a = s .args in
     let n = getD (a .counts .now) (first s) 0 in
     let delays = delayIn (a .periods .now) (a .ranks .now) (a .starts .now) (a .counts .now) (a .table .now) (a .chain .now) in
-    let all : GreatestTo delays n (l .ticks) (l .at) = subst (λ k. GreatestTo delays k (l .ticks) (l .at)) {x = l .k} {y = n} (omega (arith, l .inv .0)) (l .inv .1) in
+    let all : GreatestTo delays n (l .ticks) (l .at) = subst (λ k. GreatestTo delays k (l .ticks) (l .at)) {x = l .k} {y = n} (omega (arith, l .inv .0)) (l .inv .1 .greatest) in
     record {
       ticks-is = all .is-greatest;
       release-is = ap (λ at. at * getD (a .periods .now) (first s) 0) (sym (greatest-first delays n (l .ticks) (l .at) all (entry s .row .some)));
@@ -108,8 +195,16 @@ worst-along-spec =
     cast-p
     mul-n
     element-copy-out-n
+    onward-requires
     loop-holds
+    opening-requires
+    add-if1
+    add-followed
+    sub-walk
+    part-walk-start
+    part-walk-end
     walk-requires
+    add-delay
     add-k
     loop-less
     loop-again

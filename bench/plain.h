@@ -1,0 +1,211 @@
+// The report as one would write it by hand in C, to compare with. A program that includes this has a way to fill the table.
+//
+//     PROGRAM report|table|worst|read < SHEET
+//
+// `report` prints what the proved report prints. The others print one number: the idle ticks, the worst figure, the task count.
+#include <stdbool.h>
+#include <stdint.h>
+#include <stdio.h>
+#include <stdlib.h>
+#include <string.h>
+
+enum { MOST_TASKS = 16, MOST_JOBS = 8192, MOST_TICKS = 1000000, MOST_PERIOD = 100000 };
+
+struct task {
+    uint32_t period, budget;
+    uint8_t rank;
+};
+
+struct sheet {
+    struct task tasks[MOST_TASKS];
+    uint8_t chain[MOST_TASKS];
+    uint32_t count, length;
+};
+
+struct plan {
+    uint32_t hyperperiod, jobs, idle;
+    uint32_t counts[MOST_TASKS];
+    uint32_t *rows[MOST_TASKS];
+};
+
+// Fills the rows and the idle ticks; the greatest-ranked late task, or -1.
+static int fill(const struct sheet *s, struct plan *plan);
+
+static void refuse(int number) {
+    printf("refused %d\n", number);
+    exit(0);
+}
+
+struct reader {
+    const uint8_t *bytes;
+    uint32_t bits, at;
+};
+
+static uint32_t field(struct reader *r, uint32_t width) {
+    if (r->bits < r->at + width)
+        refuse(1);
+    uint32_t value = 0;
+    for (uint32_t end = r->at + width; r->at < end; r->at++)
+        value = value * 2 + (r->bytes[r->at / 8] >> (7 - r->at % 8)) % 2;
+    return value;
+}
+
+static struct task read_task(struct reader *r, const struct sheet *s, uint32_t i) {
+    struct task t;
+    t.period = field(r, 17);
+    if (t.period == 0 || MOST_PERIOD < t.period)
+        refuse(3);
+    t.budget = field(r, 17);
+    if (t.budget == 0 || t.period < t.budget)
+        refuse(4);
+    t.rank = field(r, 8);
+    for (uint32_t j = 0; j < i; j++)
+        if (s->tasks[j].rank == t.rank)
+            refuse(5);
+    return t;
+}
+
+static void read_sheet(const uint8_t *bytes, uint32_t size, struct sheet *s) {
+    struct reader r = {bytes, size * 8, 0};
+    s->count = field(&r, 5);
+    if (s->count == 0 || MOST_TASKS < s->count)
+        refuse(2);
+    for (uint32_t i = 0; i < s->count; i++)
+        s->tasks[i] = read_task(&r, s, i);
+    s->length = field(&r, 5);
+    if (s->length == 0 || s->count < s->length)
+        refuse(6);
+    for (uint32_t i = 0; i < s->length; i++) {
+        s->chain[i] = field(&r, 4);
+        if (s->count <= s->chain[i])
+            refuse(7);
+        for (uint32_t j = 0; j < i; j++)
+            if (s->chain[j] == s->chain[i])
+                refuse(8);
+    }
+    uint32_t end = (r.at + 7) / 8;
+    if (end < size || field(&r, end * 8 - r.at) != 0)
+        refuse(9);
+}
+
+static uint32_t common_divisor(uint32_t a, uint32_t b) {
+    while (b != 0) {
+        uint32_t rest = a % b;
+        a = b;
+        b = rest;
+    }
+    return a;
+}
+
+static void fill_table(const struct sheet *s, struct plan *plan, uint32_t *table) {
+    uint64_t multiple = 1;
+    for (uint32_t i = 0; i < s->count; i++) {
+        uint32_t period = s->tasks[i].period;
+        multiple *= period / common_divisor(period, multiple);
+        if (MOST_TICKS < multiple)
+            refuse(10);
+    }
+    plan->hyperperiod = multiple;
+    plan->jobs = 0;
+    for (uint32_t i = 0; i < s->count; i++) {
+        plan->counts[i] = plan->hyperperiod / s->tasks[i].period;
+        plan->rows[i] = table + plan->jobs;
+        plan->jobs += plan->counts[i];
+        if (MOST_JOBS < plan->jobs)
+            refuse(11);
+    }
+    int late = fill(s, plan);
+    if (0 <= late) {
+        printf("refused 15 task %d\n", late);
+        exit(0);
+    }
+}
+
+static uint32_t response(const struct plan *plan, uint32_t i, uint32_t job) {
+    uint32_t count = plan->counts[i];
+    return plan->rows[i][job < count ? job : job % count];
+}
+
+static uint32_t delay(const struct sheet *s, const struct plan *plan, uint32_t job) {
+    uint32_t p = s->chain[0], ticks = 0;
+    for (uint32_t i = 1; i < s->length; i++) {
+        uint32_t c = s->chain[i];
+        uint32_t release = job * s->tasks[p].period, ready = release;
+        if (s->tasks[p].rank < s->tasks[c].rank)
+            ready += response(plan, p, job);
+        uint32_t period = s->tasks[c].period;
+        job = (ready + (period - 1)) / period;
+        ticks += job * period - release;
+        p = c;
+    }
+    return ticks + response(plan, p, job);
+}
+
+struct figure {
+    uint32_t ticks, release;
+};
+
+static struct figure worst(const struct sheet *s, const struct plan *plan) {
+    uint32_t p = s->chain[0];
+    struct figure most = {0, 0};
+    for (uint32_t job = 0; job < plan->counts[p]; job++) {
+        uint32_t ticks = delay(s, plan, job);
+        if (most.ticks < ticks) {
+            most.ticks = ticks;
+            most.release = job * s->tasks[p].period;
+        }
+    }
+    return most;
+}
+
+static uint32_t bound(const struct sheet *s, const uint32_t *greatest) {
+    uint32_t p = s->chain[0], ticks = 0;
+    for (uint32_t i = 1; i < s->length; i++) {
+        uint32_t c = s->chain[i];
+        uint32_t g = common_divisor(s->tasks[p].period, s->tasks[c].period);
+        ticks += s->tasks[c].period - g;
+        if (s->tasks[p].rank < s->tasks[c].rank)
+            ticks += (greatest[p] + (g - 1)) / g * g;
+        p = c;
+    }
+    return ticks + greatest[p];
+}
+
+static void print_report(const struct sheet *s, const struct plan *plan) {
+    uint32_t greatest[MOST_TASKS];
+    printf("tasks %u hyperperiod %u jobs %u idle %u\n", s->count, plan->hyperperiod, plan->jobs, plan->idle);
+    for (uint32_t i = 0; i < s->count; i++) {
+        greatest[i] = 0;
+        for (uint32_t k = 0; k < plan->counts[i]; k++)
+            if (greatest[i] < plan->rows[i][k])
+                greatest[i] = plan->rows[i][k];
+        printf("task %u response %u\n", i, greatest[i]);
+    }
+    printf("chain");
+    for (uint32_t i = 0; i < s->length; i++)
+        printf(" %u", s->chain[i]);
+    struct figure figure = worst(s, plan);
+    printf("\nworst %u from %u\n", figure.ticks, figure.release);
+    printf("bound %u\nmargin %d\n", bound(s, greatest), 1000 - (int32_t)figure.ticks);
+}
+
+int main(int count, char **words) {
+    uint8_t input[4096];
+    uint32_t table[MOST_JOBS];
+    struct sheet s;
+    struct plan plan;
+    const char *what = count == 2 ? words[1] : "report";
+    read_sheet(input, fread(input, 1, sizeof input, stdin), &s);
+    if (strcmp(what, "read") == 0) {
+        printf("%u\n", s.count);
+        return 0;
+    }
+    fill_table(&s, &plan, table);
+    if (strcmp(what, "table") == 0)
+        printf("%u\n", plan.idle);
+    else if (strcmp(what, "worst") == 0)
+        printf("%u\n", worst(&s, &plan).ticks);
+    else
+        print_report(&s, &plan);
+    return 0;
+}

@@ -1,0 +1,71 @@
+//! The sheets of the benchmark, written into the folder that is named, and a line for each: group, name, n, H, J and chain length.
+
+use model::schedule::hyperperiod;
+use model::sheet::{encoded, Task};
+use std::path::PathBuf;
+
+struct Sheets {
+    folder: PathBuf,
+}
+
+impl Sheets {
+    fn add(&self, group: &str, name: &str, tasks: &[Task], chain: &[u8]) {
+        let h = hyperperiod(tasks).expect("H is within its limit");
+        let jobs: u32 = tasks.iter().map(|t| h / t.period).sum();
+        std::fs::write(self.folder.join(format!("{name}.sheet")), encoded(tasks, chain)).expect("the sheet can be written");
+        println!("{group} {name} {} {h} {jobs} {}", tasks.len(), chain.len());
+    }
+}
+
+/// Tasks of these periods, a shorter one ranked higher and of equal ones the later, that use a 25th of the processor each.
+fn rate_monotonic(periods: &[u32]) -> Vec<Task> {
+    let longer = |i: usize, j: usize| (periods[j], i) > (periods[i], j);
+    let rank = |i: usize| (0..periods.len()).filter(|&j| j != i && longer(i, j)).count() as u8;
+    (0..periods.len()).map(|i| Task { period: periods[i], budget: (periods[i] / 25).max(1), rank: rank(i) }).collect()
+}
+
+/// Tasks 0 to n − 1 in order.
+fn straight(n: usize) -> Vec<u8> {
+    (0..n as u8).collect()
+}
+
+fn main() {
+    let folder = PathBuf::from(std::env::args().nth(1).expect("a folder is named"));
+    let sheets = Sheets { folder };
+    let task = |period, budget, rank| Task { period, budget, rank };
+    let radio = [task(20, 5, 1), task(6, 1, 3), task(12, 3, 2)];
+    sheets.add("small", "lone", &[task(5, 5, 1)], &[0]);
+    sheets.add("small", "radio", &radio, &[0, 1, 2]);
+    let small: Vec<u32> = (0..16).map(|i| [4_000, 5_000, 8_000, 10_000][i % 4]).collect();
+    sheets.add("small", "sixteen", &rate_monotonic(&small), &straight(16));
+
+    let full = [320, 625, 1_000, 1_250, 2_000, 3_125, 5_000, 6_250, 8_000, 10_000, 12_500, 15_625, 20_000, 31_250, 50_000, 62_500];
+    let back: Vec<u8> = (0..16).rev().collect();
+    let mixed: Vec<u8> = (0..16).map(|i| (i * 7 + 2) % 16).collect();
+    let dense = [1_386, 1_430, 1_456, 1_540, 1_560, 1_638, 1_680, 1_820, 1_848, 1_980, 2_002, 2_145, 2_184, 2_310, 2_340, 2_520];
+    let repeated: Vec<u32> = (0..16).map(|i| if i < 14 { [1_600, 2_000][i % 2] } else { [15_625, 20_000][i % 2] }).collect();
+    let pair = |period| vec![task(2, 1, 2), task(period, 1, 1)];
+    sheets.add("heavy", "pair", &pair(16_382), &[0, 1]);
+    sheets.add("heavy", "full", &rate_monotonic(&full), &straight(16));
+    sheets.add("heavy", "full-back", &rate_monotonic(&full), &back);
+    sheets.add("heavy", "full-mixed", &rate_monotonic(&full), &mixed);
+    sheets.add("heavy", "dense", &rate_monotonic(&dense), &straight(16));
+    sheets.add("heavy", "repeated", &rate_monotonic(&repeated), &straight(16));
+
+    for jobs in [1_000, 2_000, 4_000, 8_192] {
+        sheets.add("jobs", &format!("jobs-{jobs}"), &pair(2 * (jobs - 1)), &[0, 1]);
+    }
+    for n in [2, 4, 6, 8, 10, 14, 16] {
+        let mut tasks: Vec<Task> = (1..n).map(|i| task(20, 1, i as u8)).collect();
+        tasks.push(task(20 * (4_095 / (n - 1)), 1, 0));
+        sheets.add("tasks", &format!("tasks-{n}"), &tasks, &[0, 1]);
+    }
+    for length in [1, 2, 4, 8, 16] {
+        sheets.add("chain", &format!("chain-{length}"), &rate_monotonic(&full), &straight(length));
+    }
+    let short = [10, 16, 20, 25, 40, 50, 80, 100, 125, 200, 250, 400, 500, 625, 1_000, 1_250];
+    for scale in [1, 10, 80] {
+        let tasks: Vec<Task> = rate_monotonic(&short).iter().map(|t| task(t.period * scale, t.budget * scale, t.rank)).collect();
+        sheets.add("hyperperiod", &format!("hyperperiod-{}", 10_000 * scale), &tasks, &straight(16));
+    }
+}

@@ -133,9 +133,11 @@ fn noise(r: &mut Random, s: &mut Memory) {
     }
 }
 
+/// Cut short, longer, other bytes altogether, a bit of the last byte turned, or some bits anywhere.
 fn damage(r: &mut Random, bytes: &mut Vec<u8>) {
-    match r.between(0, 4) {
-        0 => bytes.truncate(r.between(0, bytes.len() as u32) as usize),
+    let last = bytes.len() - 1;
+    match r.between(0, 5) {
+        0 => bytes.truncate(r.between(0, last as u32) as usize),
         1 => bytes.extend(vec![0; r.pick(&[1, 1, 2, 4_000])]),
         2 => {
             let more = r.between(1, 3);
@@ -145,10 +147,10 @@ fn damage(r: &mut Random, bytes: &mut Vec<u8>) {
             let size = r.between(0, 100);
             *bytes = r.bytes(size);
         }
+        4 => bytes[last] ^= 1 << r.between(0, 7),
         _ => {
             for _ in 0..r.between(1, 3) {
-                let at = r.between(0, bytes.len() as u32 - 1) as usize;
-                bytes[at] ^= 1 << r.between(0, 7);
+                bytes[r.between(0, last as u32) as usize] ^= 1 << r.between(0, 7);
             }
         }
     }

@@ -102,9 +102,25 @@ impl fmt::Display for Request {
 }
 
 /// In groups of four bytes, which are words where everything before them is.
-pub fn hex(bytes: &[u8]) -> String {
+fn hex(bytes: &[u8]) -> String {
     let groups = bytes.chunks(4).map(|group| group.iter().map(|b| format!("{b:02x}")).collect::<String>());
     groups.collect::<Vec<_>>().join(" ")
+}
+
+/// The words of an answer; of lent bytes the last may be lost.
+pub fn words(answer: &[u8]) -> Vec<u32> {
+    answer.chunks_exact(4).map(|w| u32::from_be_bytes(w.try_into().unwrap())).collect()
+}
+
+/// An answer for a reader: the refusal in words, then the values and the lent memory.
+pub fn readable(answer: &[u8]) -> String {
+    let verdict = match words(answer)[..] {
+        [_, 0, 0, ..] => "accepted".into(),
+        [_, number, 0, ..] => format!("refused {number}"),
+        [_, number, task, ..] => format!("refused {number} task {}", task - 1),
+        _ => "too short".to_string(),
+    };
+    format!("{verdict}, {}", hex(answer.get(12..).unwrap_or(answer)))
 }
 
 fn big_endian(words: &[u32]) -> Vec<u8> {

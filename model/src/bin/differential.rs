@@ -6,7 +6,7 @@
 
 use model::experiment::{experiment, Claim, Followed};
 use model::generate::{request, sheet};
-use model::probe::{answer, hex, Answer, Call, Handed, Lent, Probe, Request, CALLS};
+use model::probe::{answer, readable, words, Answer, Call, Handed, Lent, Probe, Request, CALLS};
 use model::random::Random;
 use model::schedule::sizes;
 use model::sheet::Memory;
@@ -140,7 +140,7 @@ fn compare(probe: &mut Probe, run: &Run) -> Met {
         let expected_bytes = expected.bytes();
         if got != expected_bytes {
             println!("seed {}, request {number}: {q}", run.seed);
-            println!("expected {}\ngot      {}", hex(&expected_bytes), hex(&got));
+            println!("expected {}\ngot      {}", readable(&expected_bytes), readable(&got));
             exit(1);
         }
         met.note(&q, &expected);
@@ -154,7 +154,7 @@ fn values(probe: &mut Probe, call: Call, s: &Memory) -> Option<Vec<u32>> {
     let lent = Lent::Table { room: 8_192, words: vec![] };
     let q = Request { call, numbers: [0; 3], sheet: Handed::Memory(*s), lent };
     let (got, ()) = asked(probe, &q, || ());
-    let words: Vec<u32> = got.chunks_exact(4).map(|w| u32::from_be_bytes(w.try_into().unwrap())).collect();
+    let words = words(&got);
     (words[1] == 0).then(|| words[3..].to_vec())
 }
 

@@ -12,11 +12,21 @@ pub struct Claim {
     pub bound: u32,
 }
 
-/// How many readings were followed, and how many of them took as long as the figure.
+/// How many readings were followed, how many of them took as long as the figure, and in how many schedules one of them had to,
+/// since ranks rise along the chain.
 #[derive(Default)]
 pub struct Followed {
     pub paths: u64,
     pub reached: u64,
+    pub rising: u64,
+}
+
+impl Followed {
+    pub fn add(&mut self, more: &Followed) {
+        self.paths += more.paths;
+        self.reached += more.reached;
+        self.rising += more.rising;
+    }
 }
 
 /// What each job takes, between one tick and its budget.
@@ -72,10 +82,12 @@ fn follow(s: &Memory, claim: Claim, demands: Demands, random: &mut Random) -> Re
         }
     }
     let rising = chain.windows(2).all(|pair| z.tasks[pair[0] as usize].rank < z.tasks[pair[1] as usize].rank);
-    if rising && demands == Demands::Full && !releases_reached.contains(&claim.release) {
+    let exact = rising && demands == Demands::Full;
+    if exact && !releases_reached.contains(&claim.release) {
         return Err(format!("ranks rise, and the reading released at {} takes less than {}", claim.release, claim.figure));
     }
     followed.reached = releases_reached.len() as u64;
+    followed.rising = exact.into();
     Ok(followed)
 }
 
@@ -86,9 +98,7 @@ pub fn experiment(s: &Memory, claim: Claim, random: &mut Random) -> Result<Follo
     }
     let mut sum = Followed::default();
     for demands in [Demands::Full, Demands::Least, Demands::Any, Demands::Any, Demands::Extremes] {
-        let followed = follow(s, claim, demands, random)?;
-        sum.paths += followed.paths;
-        sum.reached += followed.reached;
+        sum.add(&follow(s, claim, demands, random)?);
     }
     Ok(sum)
 }

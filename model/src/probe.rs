@@ -118,7 +118,7 @@ pub fn readable(answer: &[u8]) -> String {
         [_, 0, 0, ..] => "accepted".into(),
         [_, number, 0, ..] => format!("refused {number}"),
         [_, number, task, ..] => format!("refused {number} task {}", task - 1),
-        _ => "too short".to_string(),
+        _ => "no whole answer".to_string(),
     };
     format!("{verdict}, {}", hex(answer.get(12..).unwrap_or(answer)))
 }

@@ -13,7 +13,7 @@ fn radio(figure: u32, release: u32, bound: u32) -> Result<Followed, String> {
 #[test]
 fn true_claim() {
     let followed = radio(13, 0, 15).unwrap();
-    assert_eq!(15, followed.paths);
+    assert_eq!((15, 1), (followed.paths, followed.rising));
     assert!(followed.reached >= 1);
 }
 

@@ -120,7 +120,7 @@ fn signed(x: u32) -> i32 {
     !((4294967295 - x) as i32)
 }
 
-// The calls, by their numbers
+// The calls, by their numbers. A number that is none of these answers no values.
 
 fn of_numbers(call: u32, a: u32, b: u32, c: u32, out: &mut [u8]) -> usize {
     match call {
@@ -255,7 +255,8 @@ fn turn(sheet: &mut [u8], content: &mut [u8], table: &mut [u32], out: &mut [u8])
     )
 }
 
-// The content and the table are so large that an answer with either still fits in a large buffer.
+// The content and the table are so large that an answer with either still fits in a large buffer. Turns are counted so that the
+// loop is known to end; no run takes so many.
 fn main() {
     let mut sheet = io::buffer();
     let mut content = [0u8; 65000];

@@ -2,7 +2,9 @@
 use sheet::Sheet;
 use theory::Task;
 
-// A call with its numbers; then follow so many bytes of the sheet, and so many of the lent memory's first content.
+// A call by its number; the form of its sheet, 0 for bytes and any other for the fields in memory; three numbers; how many entries
+// of the table it is lent. Then come so many bytes of the sheet and so many of content: the bytes that the call is lent, or the words
+// that a lent table holds over and over.
 pub struct Request {
     pub call: u32,
     pub form: u32,

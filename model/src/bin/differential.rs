@@ -16,7 +16,7 @@ use std::process::exit;
 /// So many requests meet everything that the calls can answer.
 const ENOUGH: u64 = 50_000;
 
-/// An experiment goes over several hyperperiods for each request of the comparison that it stands beside.
+/// An experiment goes over many hyperperiods, so there is one for so many requests.
 const REQUESTS_PER_EXPERIMENT: u64 = 20;
 
 struct Run {
@@ -120,15 +120,11 @@ impl Met {
     }
 }
 
-/// The probe's answer. One request is under way at a time; the model works while the probe does.
+/// The probe's answer, nothing if it gives none. One request is under way at a time; the model works while the probe does.
 fn asked<T>(probe: &mut Probe, q: &Request, meanwhile: impl FnOnce() -> T) -> (Vec<u8>, T) {
     let sent = probe.send(q);
     let done = meanwhile();
-    let got = sent.and_then(|_| probe.receive()).unwrap_or_else(|trouble| {
-        println!("the probe does not answer ({trouble}):\n  {q}");
-        exit(1);
-    });
-    (got, done)
+    (sent.and_then(|_| probe.receive()).unwrap_or_default(), done)
 }
 
 fn compare(probe: &mut Probe, run: &Run) -> Met {
@@ -149,20 +145,17 @@ fn compare(probe: &mut Probe, run: &Run) -> Met {
     met
 }
 
-/// The values of an answer, unless it is a refusal.
-fn values(probe: &mut Probe, call: Call, s: &Memory) -> Option<Vec<u32>> {
-    let lent = Lent::Table { room: 8_192, words: vec![] };
-    let q = Request { call, numbers: [0; 3], sheet: Handed::Memory(*s), lent };
-    let (got, ()) = asked(probe, &q, || ());
-    let words = words(&got);
-    (words[1] == 0).then(|| words[3..].to_vec())
-}
-
 /// What the probe says of a sheet's chain, unless it refuses the sheet.
 fn claim(probe: &mut Probe, s: &Memory) -> Option<Claim> {
-    let worst = values(probe, Call::Worst, s)?;
-    let bound = values(probe, Call::Bound, s)?;
-    Some(Claim { figure: worst[0], release: worst[1], bound: bound[0] })
+    let mut ask = |call| {
+        let lent = Lent::Table { room: 8_192, words: vec![] };
+        let q = Request { call, numbers: [0; 3], sheet: Handed::Memory(*s), lent };
+        words(&asked(probe, &q, || ()).0)
+    };
+    match (&ask(Call::Worst)[..], &ask(Call::Bound)[..]) {
+        ([_, 0, 0, figure, release, ..], [_, 0, 0, bound, ..]) => Some(Claim { figure: *figure, release: *release, bound: *bound }),
+        _ => None,
+    }
 }
 
 /// Claims are the probe's own; each is tried on schedules of the model. Answers the sheets tried and the readings followed.
@@ -178,8 +171,7 @@ fn try_claims(probe: &mut Probe, run: &Run) -> (u64, Followed) {
                 exit(1);
             });
             tried += 1;
-            sum.paths += followed.paths;
-            sum.reached += followed.reached;
+            sum.add(&followed);
         }
         run.progress(number, all, "experiments");
     }
@@ -201,8 +193,7 @@ fn main() {
         exit(1);
     }
     println!("differential: seed {}, {} requests as the model says", run.seed, run.requests);
-    println!(
-        "differential: {tried} accepted sheets, {} readings followed, none later than the figure, {} as late",
-        followed.paths, followed.reached
-    );
+    let Followed { paths, reached, rising } = followed;
+    println!("differential: {tried} accepted sheets, {paths} readings followed, none later than its figure, {reached} as late");
+    println!("differential: ranks rise along {rising} of the chains, and full budgets reach the figure of each");
 }

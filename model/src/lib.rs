@@ -1,7 +1,13 @@
 //! An independent model of document 01, written from its words and not from the crates: bits are text, a schedule goes tick by
 //! tick, multiples and divisors are found by trying.
 
+pub mod arith;
+pub mod bits;
 pub mod chain;
+pub mod experiment;
+pub mod generate;
+pub mod probe;
+pub mod random;
 pub mod report;
 pub mod schedule;
 pub mod sheet;

@@ -10,29 +10,34 @@ pub fn hyperperiod(tasks: &[Task]) -> Option<u32> {
     (1..).map(|k| k * greatest).take_while(|&h| h <= 1_000_000).find(|h| tasks.iter().all(|t| h % t.period == 0))
 }
 
-/// The finish of every job released before H, if it has one by then, and the idle ticks from 0 to H − 1.
+/// The start and the finish of every job released in some ticks from 0 on, if it has one by then, and how many of them are idle.
 pub struct Night {
+    pub starts: Vec<Vec<Option<u32>>>,
     pub finishes: Vec<Vec<Option<u32>>>,
     pub idle: u32,
 }
 
-/// The schedule from 0 to H − 1 where job k of task i takes `demand(i, k)` ticks.
-pub fn night(tasks: &[Task], h: u32, demand: impl Fn(usize, u32) -> u32) -> Night {
-    let mut finishes: Vec<Vec<Option<u32>>> = tasks.iter().map(|_| Vec::new()).collect();
+/// The schedule from 0 to `ticks` − 1 where job k of task i takes `demand(i, k)` ticks.
+pub fn night(tasks: &[Task], ticks: u32, mut demand: impl FnMut(usize, u32) -> u32) -> Night {
+    let mut by_rank: Vec<usize> = (0..tasks.len()).collect();
+    by_rank.sort_by_key(|&i| std::cmp::Reverse(tasks[i].rank));
+    let mut starts: Vec<Vec<Option<u32>>> = tasks.iter().map(|_| Vec::new()).collect();
+    let mut finishes = starts.clone();
     let mut pending: Vec<VecDeque<(usize, u32)>> = tasks.iter().map(|_| VecDeque::new()).collect();
     let mut idle = 0;
-    for tick in 0..h {
+    for tick in 0..ticks {
         for (i, t) in tasks.iter().enumerate() {
             if tick % t.period == 0 {
                 pending[i].push_back((finishes[i].len(), demand(i, tick / t.period)));
+                starts[i].push(None);
                 finishes[i].push(None);
             }
         }
-        let running = (0..tasks.len()).filter(|&i| !pending[i].is_empty()).max_by_key(|&i| tasks[i].rank);
-        match running {
+        match by_rank.iter().find(|&&i| !pending[i].is_empty()) {
             None => idle += 1,
-            Some(i) => {
+            Some(&i) => {
                 let job = pending[i].front_mut().unwrap();
+                starts[i][job.0].get_or_insert(tick);
                 job.1 -= 1;
                 if job.1 == 0 {
                     finishes[i][job.0] = Some(tick + 1);
@@ -41,7 +46,7 @@ pub fn night(tasks: &[Task], h: u32, demand: impl Fn(usize, u32) -> u32) -> Nigh
             }
         }
     }
-    Night { finishes, idle }
+    Night { starts, finishes, idle }
 }
 
 /// What is worked out of a sheet once it is accepted.

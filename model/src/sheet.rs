@@ -1,4 +1,6 @@
-//! The timing sheet: its bits as text, one character a bit, read and judged field by field.
+//! The timing sheet: its bits as text, read and judged field by field.
+
+use crate::bits::{bytes_of, text_of};
 
 #[derive(Clone, Copy, Default, PartialEq, Eq, Debug)]
 pub struct Task {
@@ -49,7 +51,7 @@ pub fn packed(bits: &str) -> Vec<u8> {
     while text.len() % 8 != 0 {
         text.push('0');
     }
-    text.as_bytes().chunks(8).map(|c| u8::from_str_radix(std::str::from_utf8(c).unwrap(), 2).unwrap()).collect()
+    bytes_of(&text)
 }
 
 pub fn encoded(tasks: &[Task], chain: &[u8]) -> Vec<u8> {
@@ -74,7 +76,7 @@ impl Cursor {
 
 /// The sheet in these bytes, or the number of the first refusal.
 pub fn read(bytes: &[u8]) -> Result<Memory, u8> {
-    let mut c = Cursor { bits: bytes.iter().map(|b| format!("{b:08b}")).collect(), at: 0 };
+    let mut c = Cursor { bits: text_of(bytes), at: 0 };
     let n = c.field(5)?;
     if n == 0 || n > 16 {
         return Err(2);

@@ -1,0 +1,272 @@
+// Makes any call of the library on request: one request after the other on standard input (src/request.rt), each answered on
+// standard output with what the call answers and the whole of the memory that it was lent (src/answer.rt). What it answers is
+// held to the model; it is proved to be safe and to end.
+mod answer;
+mod request;
+
+use answer::accepted;
+use answer::long;
+use answer::one;
+use answer::put_bytes;
+use answer::put_long;
+use answer::put_sheet;
+use answer::put_word;
+use answer::put_words;
+use answer::refused;
+use answer::three;
+use answer::two;
+use arith::Multiple;
+use chain::Bound;
+use chain::Delay;
+use chain::Margin;
+use chain::Worst;
+use request::Request;
+use request::fill;
+use request::request_in;
+use request::sheet_in;
+use schedule::Responses;
+use schedule::Sizes;
+use schedule::TaskResponses;
+use sheet::Refusal;
+use sheet::Sheet;
+use sheet::Verdict;
+use sheet::Written;
+
+// What each call answers
+
+fn put_multiple(out: &mut [u8], m: Multiple) -> usize {
+    match m {
+        Multiple::Is(x) => two(out, 1, x),
+        Multiple::Over => two(out, 0, 0),
+    }
+}
+
+fn put_verdict(out: &mut [u8], v: Verdict) -> usize {
+    match v {
+        Verdict::Fine => accepted(out),
+        Verdict::No(r) => refused(out, r),
+    }
+}
+
+fn put_written(out: &mut [u8], w: Written) -> usize {
+    match w {
+        Written::Bytes(n) => long(out, n as u64),
+        Written::No(r) => refused(out, r),
+    }
+}
+
+fn put_sizes(out: &mut [u8], z: Sizes) -> usize {
+    match z {
+        Sizes::Of(size) => two(out, size.hyperperiod, size.jobs),
+        Sizes::No(r) => refused(out, r),
+    }
+}
+
+fn put_responses(out: &mut [u8], a: Responses) -> usize {
+    match a {
+        Responses::Table(t) => three(out, t.hyperperiod, t.jobs, t.idle),
+        Responses::No(r) => refused(out, r),
+    }
+}
+
+fn put_task_responses(out: &mut [u8], t: TaskResponses) -> usize {
+    let a = t.answer;
+    let at = put_responses(&mut *out, a);
+    let greatest = t.greatest;
+    put_words(out, at, &greatest)
+}
+
+fn put_delay(out: &mut [u8], d: Delay) -> usize {
+    match d {
+        Delay::Ticks(t) => one(out, t),
+        Delay::No(r) => refused(out, r),
+    }
+}
+
+fn put_worst(out: &mut [u8], w: Worst) -> usize {
+    match w {
+        Worst::Is(f) => two(out, f.ticks, f.release),
+        Worst::No(r) => refused(out, r),
+    }
+}
+
+fn put_bound(out: &mut [u8], b: Bound) -> usize {
+    match b {
+        Bound::Ticks(t) => one(out, t),
+        Bound::No(r) => refused(out, r),
+    }
+}
+
+// Whether it is below zero, and how far from zero it is.
+fn put_margin(out: &mut [u8], m: Margin) -> usize {
+    match m {
+        Margin::Ticks(z) => {
+            let at = one(&mut *out, below_zero(z));
+            put_long(out, at, chain::magnitude(z))
+        }
+        Margin::No(r) => refused(out, r),
+    }
+}
+
+fn below_zero(z: i32) -> u32 {
+    if z < 0 { 1 } else { 0 }
+}
+
+// The signed number that has the same 32 bits.
+fn signed(x: u32) -> i32 {
+    if x < 2147483648 {
+        return x as i32;
+    }
+    !((4294967295 - x) as i32)
+}
+
+// The calls, by their numbers. A number that is none of these answers no values.
+
+fn of_numbers(call: u32, a: u32, b: u32, c: u32, out: &mut [u8]) -> usize {
+    match call {
+        1 => one(out, arith::gcd(a, b)),
+        2 => put_multiple(out, arith::lcm(a, b, c)),
+        3 => long(out, arith::up(a, b)),
+        4 => long(out, chain::magnitude(signed(a))),
+        _ => accepted(out),
+    }
+}
+
+fn of_reading(bytes: &[u8], out: &mut [u8]) -> usize {
+    let r = sheet::read(bytes);
+    let v = r.verdict;
+    let at = put_verdict(&mut *out, v);
+    let s = r.sheet;
+    put_sheet(out, at, s)
+}
+
+fn of_lent_bytes(lent: &mut [u8], at: u32, width: u32, value: u32, out: &mut [u8]) -> usize {
+    bits::put(lent, at, width, value);
+    accepted(out)
+}
+
+fn of_sheet(
+    call: u32,
+    number: u32,
+    s: Sheet,
+    lent: &mut [u8],
+    table: &mut [u32],
+    out: &mut [u8],
+) -> usize {
+    match call {
+        9 => put_verdict(out, sheet::judge(s)),
+        10 => put_written(out, sheet::write(s, lent)),
+        11 => put_sizes(out, schedule::sizes(s)),
+        12 => put_responses(out, schedule::responses(s, table)),
+        13 => put_task_responses(out, schedule::task_responses(s, table)),
+        14 => put_delay(out, chain::delay(s, number, table)),
+        15 => put_worst(out, chain::worst(s, table)),
+        16 => put_bound(out, chain::bound(s, table)),
+        17 => put_margin(out, chain::margin(s, number, table)),
+        18 => put_margin(out, chain::default_margin(s, table)),
+        _ => accepted(out),
+    }
+}
+
+// A sheet given as bytes is read first, and a refusal there is the answer.
+fn of_bytes(q: Request, bytes: &[u8], lent: &mut [u8], table: &mut [u32], out: &mut [u8]) -> usize {
+    let r = sheet::read(bytes);
+    let v = r.verdict;
+    let Verdict::Fine = v else {
+        return put_verdict(out, v);
+    };
+    let s = r.sheet;
+    of_sheet(q.call, q.first, s, lent, table, out)
+}
+
+fn of_call(q: Request, sheet: &[u8], lent: &mut [u8], table: &mut [u32], out: &mut [u8]) -> usize {
+    let call = q.call;
+    match call {
+        0..=4 => of_numbers(call, q.first, q.second, q.third, out),
+        5 => one(out, bits::number(sheet, q.first, q.second)),
+        6 => of_lent_bytes(lent, q.first, q.second, q.third, out),
+        7 => of_reading(sheet, out),
+        8 => one(out, schedule::greatest(&*table)),
+        _ => {
+            if q.form == 0 {
+                return of_bytes(q, sheet, lent, table, out);
+            }
+            of_sheet(call, q.first, sheet_in(sheet), lent, table, out)
+        }
+    }
+}
+
+// The lent memory: the table, or where that has no entries the content's bytes.
+fn put_lent(out: &mut [u8], at: usize, lent: &[u8], table: &[u32]) -> usize {
+    if table.len() == 0 {
+        return put_bytes(out, at, lent);
+    }
+    put_words(out, at, table)
+}
+
+// Requests, turn by turn. A turn answers whether it was served: the input's end, and a request that is too large, end the run.
+
+fn send(out: &[u8], size: usize) -> bool {
+    if size > out.len() {
+        return false;
+    }
+    io::write_all(1, &out[..size])
+}
+
+fn serve(q: Request, sheet: &mut [u8], lent: &mut [u8], table: &mut [u32], out: &mut [u8]) -> bool {
+    if io::read_full(0, &mut *sheet) < sheet.len() {
+        return false;
+    }
+    if io::read_full(0, &mut *lent) < lent.len() {
+        return false;
+    }
+    fill(&mut *table, &*lent);
+    let at = of_call(q, &*sheet, &mut *lent, &mut *table, &mut *out);
+    let size = put_lent(&mut *out, at, &*lent, &*table) % 1000000;
+    put_word(&mut *out, 0, size as u32);
+    send(out, size)
+}
+
+// The parts of the buffers that the request asks for.
+fn turn(sheet: &mut [u8], content: &mut [u8], table: &mut [u32], out: &mut [u8]) -> bool {
+    let mut header = [0u8; 32];
+    if io::read_full(0, &mut header) < 32 {
+        return false;
+    }
+    let q = request_in(&header);
+    let bytes = q.sheet as usize;
+    let size = q.content as usize;
+    let room = q.room as usize;
+    if bytes > sheet.len() {
+        return false;
+    }
+    if size > content.len() {
+        return false;
+    }
+    if room > table.len() {
+        return false;
+    }
+    serve(
+        q,
+        &mut sheet[..bytes],
+        &mut content[..size],
+        &mut table[..room],
+        out,
+    )
+}
+
+// The content and the table are so large that an answer with either still fits in a large buffer. Turns are counted so that the
+// loop is known to end; no run takes so many.
+fn main() {
+    let mut sheet = io::buffer();
+    let mut content = [0u8; 65000];
+    let mut table = [0u32; 8400];
+    let mut out = io::large_buffer();
+    let mut turns = 0u32;
+    while turns < 4294967295 {
+        if !turn(&mut sheet, &mut content, &mut table, &mut out) {
+            return;
+        }
+        turns += 1;
+    }
+}

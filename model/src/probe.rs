@@ -1,0 +1,296 @@
+//! Requests of crates/probe, what the model answers to each, and the probe itself as a process.
+
+use crate::sheet::{judge, read, write, Memory};
+use crate::{arith, bits, chain, schedule, Refusal};
+use std::fmt;
+use std::io::{Read as _, Write as _};
+use std::process::{Child, ChildStdin, ChildStdout, Command, Stdio};
+
+/// The calls, by the numbers that the probe knows them by.
+#[derive(Clone, Copy, PartialEq, Eq, Debug)]
+pub enum Call {
+    Gcd = 1,
+    Lcm,
+    Up,
+    Magnitude,
+    Number,
+    Put,
+    Read,
+    Greatest,
+    Judge,
+    Write,
+    Sizes,
+    Responses,
+    TaskResponses,
+    Delay,
+    Worst,
+    Bound,
+    Margin,
+    DefaultMargin,
+}
+
+use Call::*;
+
+pub const CALLS: [Call; 18] = [
+    Gcd, Lcm, Up, Magnitude, Number, Put, Read, Greatest, Judge, Write, Sizes, Responses, TaskResponses, Delay, Worst, Bound, Margin,
+    DefaultMargin,
+];
+
+impl Call {
+    /// The numbers of refusal that the call can give, of the reader before it too.
+    pub fn refusals(self) -> Vec<u8> {
+        match self {
+            Gcd | Lcm | Up | Magnitude | Number | Put | Greatest => vec![],
+            Read | Judge => (1..=9).collect(),
+            Write => (1..=9).chain([14]).collect(),
+            Sizes => (1..=11).collect(),
+            Responses | TaskResponses | Worst | Bound | DefaultMargin => (1..=11).chain([14, 15]).collect(),
+            Delay => (1..=12).chain([14, 15]).collect(),
+            Margin => (1..=11).chain([13, 14, 15]).collect(),
+        }
+    }
+}
+
+/// A sheet as a request has it. Calls that take plain bytes find them here too.
+#[derive(Clone)]
+pub enum Handed {
+    Bytes(Vec<u8>),
+    Memory(Memory),
+}
+
+impl Handed {
+    /// The sheet that the call sees, unless the reader refuses the bytes.
+    pub fn memory(&self) -> Option<Memory> {
+        match self {
+            Handed::Bytes(bytes) => read(bytes).ok(),
+            Handed::Memory(s) => Some(*s),
+        }
+    }
+}
+
+/// The memory that a call is lent and what it holds first: bytes, or entries with these words over and over.
+#[derive(Clone)]
+pub enum Lent {
+    Bytes(Vec<u8>),
+    Table { room: usize, words: Vec<u32> },
+}
+
+#[derive(Clone)]
+pub struct Request {
+    pub call: Call,
+    pub numbers: [u32; 3],
+    pub sheet: Handed,
+    pub lent: Lent,
+}
+
+/// In words that let a reader try it again by hand.
+impl fmt::Display for Request {
+    fn fmt(&self, f: &mut fmt::Formatter<'_>) -> fmt::Result {
+        write!(f, "call {:?}, numbers {:?}", self.call, self.numbers)?;
+        if let Handed::Bytes(bytes) = &self.sheet {
+            write!(f, "\n  bytes {}", hex(bytes))?;
+        }
+        if let Some(s) = self.sheet.memory() {
+            let tasks: Vec<_> = s.tasks.iter().map(|t| (t.period, t.budget, t.rank)).collect();
+            write!(f, "\n  count {} tasks {tasks:?}\n  length {} chain {:?}", s.count, s.length, s.chain)?;
+        }
+        match &self.lent {
+            Lent::Bytes(bytes) => write!(f, "\n  lent {} bytes {}", bytes.len(), hex(bytes)),
+            Lent::Table { room, words } => write!(f, "\n  lent {room} entries, over and over {words:?}"),
+        }
+    }
+}
+
+/// In groups of four bytes, which are words where everything before them is.
+fn hex(bytes: &[u8]) -> String {
+    let groups = bytes.chunks(4).map(|group| group.iter().map(|b| format!("{b:02x}")).collect::<String>());
+    groups.collect::<Vec<_>>().join(" ")
+}
+
+/// The words of an answer; of lent bytes the last may be lost.
+pub fn words(answer: &[u8]) -> Vec<u32> {
+    answer.chunks_exact(4).map(|w| u32::from_be_bytes(w.try_into().unwrap())).collect()
+}
+
+/// An answer for a reader: the refusal in words, then the values and the lent memory.
+pub fn readable(answer: &[u8]) -> String {
+    let verdict = match words(answer)[..] {
+        [_, 0, 0, ..] => "accepted".into(),
+        [_, number, 0, ..] => format!("refused {number}"),
+        [_, number, task, ..] => format!("refused {number} task {}", task - 1),
+        _ => "no whole answer".to_string(),
+    };
+    format!("{verdict}, {}", hex(answer.get(12..).unwrap_or(answer)))
+}
+
+fn big_endian(words: &[u32]) -> Vec<u8> {
+    words.iter().flat_map(|w| w.to_be_bytes()).collect()
+}
+
+/// A sheet in memory, field by field.
+fn fields(s: &Memory) -> Vec<u8> {
+    let mut bytes = vec![s.count, s.length];
+    for t in s.tasks {
+        bytes.extend(big_endian(&[t.period, t.budget]));
+        bytes.push(t.rank);
+    }
+    bytes.extend(s.chain);
+    bytes
+}
+
+impl Request {
+    /// As the probe reads it: eight words, the sheet, the first content of the lent memory.
+    pub fn bytes(&self) -> Vec<u8> {
+        let (form, sheet) = match &self.sheet {
+            Handed::Bytes(bytes) => (0, bytes.clone()),
+            Handed::Memory(s) => (1, fields(s)),
+        };
+        let (room, content) = match &self.lent {
+            Lent::Bytes(bytes) => (0, bytes.clone()),
+            Lent::Table { room, words } => (*room as u32, big_endian(&words[..words.len().min(*room)])),
+        };
+        let [a, b, c] = self.numbers;
+        let header = [self.call as u32, form, a, b, c, room, sheet.len() as u32, content.len() as u32];
+        [big_endian(&header), sheet, content].concat()
+    }
+}
+
+/// What a call answers, and the lent memory after it.
+pub struct Answer {
+    pub refusal: Option<Refusal>,
+    pub values: Vec<u32>,
+    lent: Vec<u8>,
+}
+
+impl Answer {
+    /// As the probe writes it.
+    pub fn bytes(&self) -> Vec<u8> {
+        let number = self.refusal.map_or(0, |r| r.number);
+        let task = self.refusal.and_then(|r| r.task).map_or(0, |task| task + 1);
+        let front = big_endian(&[number.into(), task.into()]);
+        let rest = [front, big_endian(&self.values), self.lent.clone()].concat();
+        [big_endian(&[rest.len() as u32 + 4]), rest].concat()
+    }
+}
+
+/// A refusal, or the values of an answer.
+type Told = Result<Vec<u32>, Refusal>;
+
+fn long(x: u64) -> Vec<u32> {
+    vec![(x >> 32) as u32, x as u32]
+}
+
+/// Whether it is below zero, and how far from zero.
+fn signed(x: i64) -> Vec<u32> {
+    [vec![u32::from(x < 0)], long(x.unsigned_abs())].concat()
+}
+
+/// The sheet that a reading leaves, blank after a refusal: the counts, then place by place.
+fn sheet_values(s: &Memory) -> Vec<u32> {
+    let places = s.tasks.iter().zip(s.chain).flat_map(|(t, e)| [t.period, t.budget, t.rank.into(), e.into()]);
+    [u32::from(s.count), s.length.into()].into_iter().chain(places).collect()
+}
+
+fn of_sheet(call: Call, number: u32, s: &Memory, buffer: &mut [u8], table: &mut [u32]) -> Told {
+    match call {
+        Judge => Ok(judge(s).map(|_| vec![])?),
+        Write => Ok(long(write(s, buffer)? as u64)),
+        Sizes => schedule::sizes(s).map(|z| vec![z.hyperperiod, z.jobs]),
+        Responses => schedule::responses(s, table).map(|w| vec![w.hyperperiod, w.jobs, w.idle]),
+        TaskResponses => schedule::responses(s, table).map(|w| {
+            let mut greatest: Vec<u32> = w.responses.iter().map(|row| *row.iter().max().unwrap()).collect();
+            greatest.resize(16, 0);
+            [vec![w.hyperperiod, w.jobs, w.idle], greatest].concat()
+        }),
+        Delay => chain::delay(s, number, table).map(|d| vec![d]),
+        Worst => chain::worst(s, table).map(|(figure, release)| vec![figure, release]),
+        Bound => chain::bound(s, table).map(|b| vec![b]),
+        Margin => chain::margin(s, number, table).map(signed),
+        DefaultMargin => chain::margin(s, 1_000, table).map(signed),
+        _ => unreachable!("{call:?} takes no sheet"),
+    }
+}
+
+fn told(q: &Request, buffer: &mut [u8], table: &mut [u32]) -> Told {
+    let [a, b, c] = q.numbers;
+    match (q.call, &q.sheet) {
+        (Gcd, _) => Ok(vec![arith::gcd(a, b)]),
+        (Lcm, _) => Ok(arith::lcm(a, b, c).map_or(vec![0, 0], |x| vec![1, x])),
+        (Up, _) => Ok(long(arith::up(a, b))),
+        (Magnitude, _) => Ok(long(i64::from(a as i32).unsigned_abs())),
+        (Number, Handed::Bytes(bytes)) => Ok(vec![bits::number(bytes, a, b)]),
+        (Put, _) => {
+            bits::put(buffer, a, b, c);
+            Ok(vec![])
+        }
+        (Read, Handed::Bytes(bytes)) => Ok(sheet_values(&read(bytes)?)),
+        (Greatest, _) => Ok(vec![table.iter().copied().max().unwrap_or(0)]),
+        (call, Handed::Bytes(bytes)) => of_sheet(call, a, &read(bytes)?, buffer, table),
+        (call, Handed::Memory(s)) => of_sheet(call, a, s, buffer, table),
+    }
+}
+
+/// What stands in an answer even after a refusal by the call itself: a blank sheet, or sixteen zeros for R.
+fn values_of_a_refusal(q: &Request) -> Vec<u32> {
+    match q.call {
+        Read => sheet_values(&Memory::default()),
+        TaskResponses if q.sheet.memory().is_some() => vec![0; 16],
+        _ => vec![],
+    }
+}
+
+pub fn answer(q: &Request) -> Answer {
+    let (mut buffer, mut table) = match &q.lent {
+        Lent::Bytes(bytes) => (bytes.clone(), vec![]),
+        Lent::Table { room, words } if words.is_empty() => (vec![], vec![0; *room]),
+        Lent::Table { room, words } => (vec![], words.iter().copied().cycle().take(*room).collect()),
+    };
+    let told = told(q, &mut buffer, &mut table);
+    let lent = [buffer, big_endian(&table)].concat();
+    match told {
+        Ok(values) => Answer { refusal: None, values, lent },
+        Err(r) => Answer { refusal: Some(r), values: values_of_a_refusal(q), lent },
+    }
+}
+
+/// The probe as a process. It reads a request whole before it answers, so that one request at a time never waits for itself.
+pub struct Probe {
+    child: Child,
+    requests: ChildStdin,
+    answers: ChildStdout,
+}
+
+impl Probe {
+    pub fn start() -> Probe {
+        let mut child = Command::new(concat!(env!("CARGO_MANIFEST_DIR"), "/../tools/run"))
+            .arg("probe")
+            .stdin(Stdio::piped())
+            .stdout(Stdio::piped())
+            .spawn()
+            .expect("the probe can be started");
+        let (requests, answers) = (child.stdin.take().unwrap(), child.stdout.take().unwrap());
+        Probe { child, requests, answers }
+    }
+
+    pub fn send(&mut self, q: &Request) -> std::io::Result<()> {
+        self.requests.write_all(&q.bytes())
+    }
+
+    /// The answer to the request that was sent last.
+    pub fn receive(&mut self) -> std::io::Result<Vec<u8>> {
+        let mut size = [0; 4];
+        self.answers.read_exact(&mut size)?;
+        let mut answer = vec![0; (u32::from_be_bytes(size) as usize).clamp(4, 65_536)];
+        answer[..4].copy_from_slice(&size);
+        self.answers.read_exact(&mut answer[4..])?;
+        Ok(answer)
+    }
+
+    /// The run ends with its input, and nothing follows the last answer.
+    pub fn end(mut self) -> std::io::Result<bool> {
+        drop(self.requests);
+        let mut surplus = Vec::new();
+        self.answers.read_to_end(&mut surplus)?;
+        Ok(self.child.wait()?.success() && surplus.is_empty())
+    }
+}

@@ -1,5 +1,6 @@
 //! Requests of crates/probe, what the model answers to each, and the probe itself as a process.
 
+use crate::schedule::Worked;
 use crate::sheet::{judge, read, write, Memory};
 use crate::{arith, bits, chain, schedule, Refusal};
 use std::fmt;
@@ -27,13 +28,14 @@ pub enum Call {
     Bound,
     Margin,
     DefaultMargin,
+    Figures,
 }
 
 use Call::*;
 
-pub const CALLS: [Call; 18] = [
+pub const CALLS: [Call; 19] = [
     Gcd, Lcm, Up, Magnitude, Number, Put, Read, Greatest, Judge, Write, Sizes, Responses, TaskResponses, Delay, Worst, Bound, Margin,
-    DefaultMargin,
+    DefaultMargin, Figures,
 ];
 
 impl Call {
@@ -44,7 +46,7 @@ impl Call {
             Read | Judge => (1..=9).collect(),
             Write => (1..=9).chain([14]).collect(),
             Sizes => (1..=11).collect(),
-            Responses | TaskResponses | Worst | Bound | DefaultMargin => (1..=11).chain([14, 15]).collect(),
+            Responses | TaskResponses | Worst | Bound | DefaultMargin | Figures => (1..=11).chain([14, 15]).collect(),
             Delay => (1..=12).chain([14, 15]).collect(),
             Margin => (1..=11).chain([13, 14, 15]).collect(),
         }
@@ -191,22 +193,34 @@ fn sheet_values(s: &Memory) -> Vec<u32> {
     [u32::from(s.count), s.length.into()].into_iter().chain(places).collect()
 }
 
+fn totals(w: &Worked) -> Vec<u32> {
+    vec![w.hyperperiod, w.jobs, w.idle]
+}
+
+/// R of each task, in sixteen places.
+fn greatest(w: &Worked) -> Vec<u32> {
+    let mut greatest: Vec<u32> = w.responses.iter().map(|row| *row.iter().max().unwrap()).collect();
+    greatest.resize(16, 0);
+    greatest
+}
+
 fn of_sheet(call: Call, number: u32, s: &Memory, buffer: &mut [u8], table: &mut [u32]) -> Told {
     match call {
         Judge => Ok(judge(s).map(|_| vec![])?),
         Write => Ok(long(write(s, buffer)? as u64)),
         Sizes => schedule::sizes(s).map(|z| vec![z.hyperperiod, z.jobs]),
-        Responses => schedule::responses(s, table).map(|w| vec![w.hyperperiod, w.jobs, w.idle]),
-        TaskResponses => schedule::responses(s, table).map(|w| {
-            let mut greatest: Vec<u32> = w.responses.iter().map(|row| *row.iter().max().unwrap()).collect();
-            greatest.resize(16, 0);
-            [vec![w.hyperperiod, w.jobs, w.idle], greatest].concat()
-        }),
+        Responses => schedule::responses(s, table).map(|w| totals(&w)),
+        TaskResponses => schedule::responses(s, table).map(|w| [totals(&w), greatest(&w)].concat()),
         Delay => chain::delay(s, number, table).map(|d| vec![d]),
         Worst => chain::worst(s, table).map(|(figure, release)| vec![figure, release]),
         Bound => chain::bound(s, table).map(|b| vec![b]),
         Margin => chain::margin(s, number, table).map(signed),
         DefaultMargin => chain::margin(s, 1_000, table).map(signed),
+        Figures => schedule::responses(s, table).map(|w| {
+            let chain = &s.chain[..s.length as usize];
+            let (figure, release) = w.worst(chain);
+            [totals(&w), vec![figure, release, w.bound(chain)], signed(1_000 - i64::from(figure)), greatest(&w)].concat()
+        }),
         _ => unreachable!("{call:?} takes no sheet"),
     }
 }
@@ -234,7 +248,7 @@ fn told(q: &Request, buffer: &mut [u8], table: &mut [u32]) -> Told {
 fn values_of_a_refusal(q: &Request) -> Vec<u32> {
     match q.call {
         Read => sheet_values(&Memory::default()),
-        TaskResponses if q.sheet.memory().is_some() => vec![0; 16],
+        TaskResponses | Figures if q.sheet.memory().is_some() => vec![0; 16],
         _ => vec![],
     }
 }

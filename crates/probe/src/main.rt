@@ -18,7 +18,10 @@ use answer::two;
 use arith::Multiple;
 use chain::Bound;
 use chain::Delay;
+use chain::Figures;
 use chain::Margin;
+use chain::Summary;
+use chain::TaskFigures;
 use chain::Worst;
 use request::Request;
 use request::fill;
@@ -97,15 +100,42 @@ fn put_bound(out: &mut [u8], b: Bound) -> usize {
     }
 }
 
-// Whether it is below zero, and how far from zero it is.
 fn put_margin(out: &mut [u8], m: Margin) -> usize {
     match m {
         Margin::Ticks(z) => {
-            let at = one(&mut *out, below_zero(z));
-            put_long(out, at, chain::magnitude(z))
+            let at = accepted(&mut *out);
+            put_signed(out, at, z)
         }
         Margin::No(r) => refused(out, r),
     }
+}
+
+fn put_summary(out: &mut [u8], summary: Summary) -> usize {
+    let totals = summary.totals;
+    let at = three(&mut *out, totals.hyperperiod, totals.jobs, totals.idle);
+    let worst = summary.worst;
+    let next = put_words(&mut *out, at, &[worst.ticks, worst.release, summary.bound]);
+    put_signed(out, next, summary.margin)
+}
+
+fn put_figures(out: &mut [u8], f: Figures) -> usize {
+    match f {
+        Figures::Of(summary) => put_summary(out, summary),
+        Figures::No(r) => refused(out, r),
+    }
+}
+
+fn put_task_figures(out: &mut [u8], t: TaskFigures) -> usize {
+    let a = t.answer;
+    let at = put_figures(&mut *out, a);
+    let greatest = t.greatest;
+    put_words(out, at, &greatest)
+}
+
+// Whether it is below zero, and how far from zero it is.
+fn put_signed(out: &mut [u8], at: usize, z: i32) -> usize {
+    let next = put_word(&mut *out, at, below_zero(z));
+    put_long(out, next, chain::magnitude(z))
 }
 
 fn below_zero(z: i32) -> u32 {
@@ -164,6 +194,7 @@ fn of_sheet(
         16 => put_bound(out, chain::bound(s, table)),
         17 => put_margin(out, chain::margin(s, number, table)),
         18 => put_margin(out, chain::default_margin(s, table)),
+        19 => put_task_figures(out, chain::figures(s, table)),
         _ => accepted(out),
     }
 }

@@ -43,7 +43,8 @@ fn of_numbers_and_bits() -> Vec<Request> {
 
 /// Each call on a sheet, with a number for those that take one.
 fn of_sheet(sheet: &Handed, number: u32, room: usize) -> Vec<Request> {
-    let with_table = [Call::Responses, Call::TaskResponses, Call::Delay, Call::Worst, Call::Bound, Call::Margin, Call::DefaultMargin];
+    let with_table =
+        [Call::Responses, Call::TaskResponses, Call::Delay, Call::Worst, Call::Bound, Call::Margin, Call::DefaultMargin, Call::Figures];
     let table = || Lent::Table { room, words: vec![7, 8, 9] };
     let mut requests = vec![
         request(Call::Judge, [0; 3], sheet.clone(), no_memory()),

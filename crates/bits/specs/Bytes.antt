@@ -2,15 +2,15 @@
 use mathlib.Core.Path.{_≡_, refl, sym, ap, ap₂, _∙_}
 use mathlib.Core.Bool.{Bool, false}
 use mathlib.Core.List.{List, [], _∷_, _++_, append-assoc}
-use Prim.Native.Nat.{ℕ, zero, suc, _+_, _-_, _*_, _/_, _%_, _^_, _≤_, _<_}
+use Prim.Native.Nat.{ℕ, zero, suc, _+_, _-_, _*_, _/_, _%_, _≤_, _<_}
 use native.Mathlib.Nat.{le-of-suc-le-suc}
 use native.Mathlib.Omega.{arith}
 use native.Mathlib.Decide.{decLt}
 use lib.ListN.{length, getD, drop, set, length-append, List·getD-append, List·getD-eq-default}
 use lib.Seq.{sets, set-append-left, sets-eq, getD-append-add, getD-drop, ext-getD, drop-append-add}
-use Rattle.bits.specs.Bits.{one, bits, unpack, number, bytesFor, bytesOf, written}
+use Rattle.bits.specs.Bits.{bits, unpack, number, bytesFor, bytesOf, written}
 use Rattle.bits.specs.Lists.{set-append-add, length-listOf, getD-listOf}
-use Rattle.bits.specs.Laws.{one-odd, length-bits, getD-bits, number-lt, number-same, number-bits, bits-number}
+use Rattle.bits.specs.Laws.{length-bits, number-lt, number-same, number-zero, number-bits, bits-number}
 
 -- What a list of u8 is known to hold.
 abbrev pub Bytes : List ℕ → Type 0
@@ -36,23 +36,15 @@ getD-unpack (x ∷ xs) (suc i) k h g =
     ∙ getD-append-add (bits 8 x) (unpack xs) (i * 8 + k) false
     ∙ getD-unpack xs i k (le-of-suc-le-suc h) g
 
--- the bit at a place, by its byte, and past the end
-pub bit-of-byte : (s : List ℕ) (at : ℕ) → at / 8 < length s → one (bitAt s at) ≡ getD s (at / 8) 0 / 2 ^ (7 - at % 8) % 2
-bit-of-byte s at h =
-    ap one
-    (ap (bitAt s) {x = at} {y = at / 8 * 8 + at % 8} (omega arith)
-    ∙ getD-unpack s (at / 8) (at % 8) h (omega arith)
-    ∙ getD-bits 8 (getD s (at / 8) 0) (at % 8) (7 - at % 8) (omega arith))
-    ∙ one-odd (getD s (at / 8) 0 / 2 ^ (7 - at % 8))
-
-pub bit-past : (s : List ℕ) (at : ℕ) → length s ≤ at / 8 → bitAt s at ≡ false
-bit-past s at h = List·getD-eq-default (unpack s) false {n = at} (omega (arith, length-unpack s))
-
 -- a byte is the number of its bits
 pub byte-number : (s : List ℕ) (i : ℕ) → Bytes s → i < length s → number (unpack s) (i * 8) 8 ≡ getD s i 0
 byte-number s i b h =
     number-same (unpack s) (bits 8 (getD s i 0)) (i * 8) 0 8 (λ k l. getD-unpack s i k h l ∙ ap (λ n. getD (bits 8 (getD s i 0)) n false) {x = k} {y = 0 + k} (omega arith))
     ∙ number-bits 8 (getD s i 0) (b i)
+
+-- and past the end there is none
+pub byte-past : (s : List ℕ) (i : ℕ) → length s ≤ i → number (unpack s) (i * 8) 8 ≡ 0
+byte-past s i h = number-zero (unpack s) (i * 8) 8 (λ k l. List·getD-eq-default (unpack s) false (omega (arith, length-unpack s)))
 
 -- so bytes are known by their bits
 pub bytes-same : (s t : List ℕ) → Bytes s → Bytes t → length s ≡ length t → ((p : ℕ) → p < length s * 8 → bitAt s p ≡ bitAt t p) → s ≡ t

@@ -3,9 +3,9 @@ use mathlib.Core.Path.{_≡_, refl, sym, ap, ap₂, _∙_}
 use mathlib.Core.Bool.{Bool, true, false}
 use mathlib.Core.List.{List}
 use Prim.Native.Nat.{ℕ, zero, suc, _+_, _-_, _*_, _/_, _%_, _^_, _<_}
-use native.Mathlib.Nat.{pow-suc, pow-zero, mod-lt, zero-div, div-eq-of-lt}
+use native.Mathlib.Nat.{pow-suc, pow-zero, mod-lt, mod-eq-of-lt, zero-div, div-eq-of-lt, mul-add-div-right, mul-add-mod-self-right}
 use native.Mathlib.Omega.{arith}
-use lib.Pow.{shr-shr}
+use lib.Pow.{pow-pos, shr-shr}
 use lib.ListN.{length, getD, set}
 use lib.Seq.{getD-set-same, getD-set-other, ext-getD}
 use borrow.Author.Tests.{eq-eqb, ne-eqb, eqb-true, eqb-false}
@@ -57,6 +57,24 @@ pub number-lt : (bs : List Bool) (at w : ℕ) → number bs at w < 2 ^ w
 unfolding number
 number-lt bs at zero = omega (arith, pow-zero 2)
 number-lt bs at (suc w) = omega (arith, number-lt bs at w, one-lt (getD bs (at + w) false), pow-suc 2 w)
+
+-- of two stretches, one after the other
+pub number-append : (bs : List Bool) (at v w : ℕ) → number bs at (v + w) ≡ number bs at v * 2 ^ w + number bs (at + v) w
+unfolding number
+number-append bs at v zero = ap (number bs at) {x = v + 0} {y = v} (omega arith) ∙ omega arith
+number-append bs at v (suc w) =
+    ap (number bs at) {x = v + suc w} {y = suc (v + w)} (omega arith)
+    ∙ omega (arith, number-append bs at v w, ap (λ k. one (getD bs k false)) {x = at + (v + w)} {y = at + v + w} (omega arith), ap (λ x. number bs at v * x) (pow-suc 2 w))
+
+-- of a stretch between two others
+pub number-within : (bs : List Bool) (at v w rest : ℕ) → number bs at (v + w + rest) / 2 ^ rest % 2 ^ w ≡ number bs (at + v) w
+number-within bs at v w rest =
+    ap (λ x. x / 2 ^ rest % 2 ^ w) (number-append bs at (v + w) rest)
+    ∙ ap (λ x. x % 2 ^ w)
+    (mul-add-div-right (pow-pos rest) (number bs at (v + w)) (number bs (at + (v + w)) rest)
+    ∙ omega (arith, div-eq-of-lt (number-lt bs (at + (v + w)) rest), number-append bs at v w))
+    ∙ mul-add-mod-self-right (number bs at v) (2 ^ w) (number bs (at + v) w)
+    ∙ mod-eq-of-lt (number-lt bs (at + v) w)
 
 -- it depends on those bits alone
 pub number-same : (bs cs : List Bool) (at to w : ℕ) → ((k : ℕ) → k < w → getD bs (at + k) false ≡ getD cs (to + k) false) → number bs at w ≡ number cs to w

@@ -1,16 +1,15 @@
 // Bits in bytes, most significant first: a number read from any place, and a number put there, for every input. What bits, numbers
 // and bytes have to do with each other is said in specs/Bits.antt; the laws beside it serve every packed format.
 ghost use mathlib.Core.Path.{_≡_};
-ghost use mathlib.Core.Bool.{false};
-ghost use Prim.Native.Nat.{_-_, _^_, _<_, min};
-ghost use lib.ListN.{getD, set};
+ghost use Prim.Native.Nat.{_-_, _*_, _/_, _^_, _<_, min};
+ghost use lib.ListN.{set};
 ghost use lib.Seq.{sets};
-ghost use Rattle.bits.specs.Bits.{one, odd, bits, unpack, number};
+ghost use Rattle.bits.specs.Bits.{odd, bits, unpack, number};
 
-fn wide(x: u8) -> u32
+fn wide(x: u8) -> u64
     ensures { λ r. ⌜ r ≡ x ⌝ }
 {
-    x as u32
+    x as u64
 }
 
 // A width that a u32 can hold.
@@ -23,15 +22,35 @@ fn held(width: u32) -> u32
     32
 }
 
-// The bit at a place, 0 past the end.
-fn bit(bytes: &[u8], at: usize) -> u32
-    ensures { λ r. ⌜ r ≡ one (getD (unpack (now (bytes .entry))) at false) ⌝ }
+fn weight(e: usize) -> u64
+    requires { ⌜ e < 64 ⌝ }
+    ensures { λ r. ⌜ r ≡ 2 ^ e ⌝ }
 {
-    let i = at / 8;
+    1u64 << e
+}
+
+// A byte, 0 past the end.
+fn byte(bytes: &[u8], i: usize) -> u64
+    ensures { λ r. ⌜ r ≡ number (unpack (now (bytes .entry))) (i * 8) 8 ⌝ }
+{
     if i < bytes.len() {
-        return (wide(bytes[i]) >> (7 - at % 8)) % 2;
+        return wide(bytes[i]);
     }
     0
+}
+
+// The number in the five bytes from the one on that has bit `at`.
+fn around(bytes: &[u8], at: u32) -> u64
+    ensures { λ r. ⌜ r ≡ number (unpack (now (bytes .entry))) (at / 8 * 8) 40 ⌝ }
+{
+    let first = (at / 8) as usize;
+    let mut value = 0u64;
+    let mut k = 0usize;
+    while k < 5 {
+        value = value * 256 + byte(bytes, first + k);
+        k += 1;
+    }
+    value
 }
 
 // The number in the `width` bits from bit `at` on. A bit past the end counts as 0, and a width over 32 as 32.
@@ -39,24 +58,12 @@ pub fn number(bytes: &[u8], at: u32, width: u32) -> u32
     ensures { λ r. ⌜ r ≡ number (unpack (now (bytes .entry))) at (min width 32) ⌝ }
 {
     let end = held(width);
-    let mut value = 0u32;
-    let mut k = 0u32;
-    while k < end {
-        value = value * 2 + bit(bytes, at as usize + k as usize);
-        k += 1;
-    }
-    value
-}
-
-fn weight(e: usize) -> u32
-    requires { ⌜ e < 8 ⌝ }
-    ensures { λ r. ⌜ r ≡ 2 ^ e ⌝ }
-{
-    1u32 << e
+    let rest = 40 - at % 8 - end;
+    ((around(bytes, at) >> rest) % weight(end as usize)) as u32
 }
 
 // A byte with its bit of weight 2 ^ e set to b.
-fn with_bit(x: u8, e: usize, b: u32) -> u8
+fn with_bit(x: u8, e: usize, b: u64) -> u8
     requires { ⌜ (e < 8) × (b < 2) ⌝ }
     ensures { λ r. ⌜ bits 8 r ≡ set (bits 8 x) (7 - e) (odd b) ⌝ }
 {
@@ -67,7 +74,7 @@ fn with_bit(x: u8, e: usize, b: u32) -> u8
 }
 
 // One bit put at a place; past the end it is dropped.
-fn put_bit(out: &mut [u8], at: usize, b: u32)
+fn put_bit(out: &mut [u8], at: usize, b: u64)
     requires { ⌜ b < 2 ⌝ }
     ensures { λ r. ⌜ unpack (now (out .exit)) ≡ set (unpack (now (out .entry))) at (odd b) ⌝ }
 {
@@ -87,7 +94,7 @@ pub fn put(out: &mut [u8], at: u32, width: u32, value: u32)
         put_bit(
             &mut *out,
             at as usize + k as usize,
-            (value >> (end - 1 - k)) % 2,
+            ((value >> (end - 1 - k)) % 2) as u64,
         );
         k += 1;
     }

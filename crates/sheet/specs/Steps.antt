@@ -1,11 +1,11 @@
 -- Names for the steps of the code over the fields, which no promise of a call needs.
-use mathlib.Core.Bool.{Bool, true, false, cond}
+use mathlib.Core.Bool.{cond}
+use mathlib.Core.List.{List}
 use Prim.Native.Nat.{ℕ, _+_}
 use lib.Dec.{ltb}
-use Rattle.sheet.specs.declared.Sheet.{Sheet}
+use lib.ListN.{getD}
 use Rattle.sheet.specs.declared.Field.{Field}
 use Rattle.sheet.specs.declared.Field.the-variants.{Count, Period, Budget, Rank, Length, Entry}
-use Rattle.sheet.specs.Fields.{value}
 
 -- The field after a field, on a sheet of n tasks.
 abbrev pub opening : ℕ → ℕ → Field
@@ -27,10 +27,6 @@ index (Rank i) = i
 index Length = 0
 index (Entry i) = i
 
-abbrev pub numbered : Bool → ℕ → Field
-numbered true i = Entry i
-numbered false i = Rank i
-
--- the entries, or the ranks
-abbrev pub series : Sheet → Bool → ℕ → ℕ
-series s entry i = value s (numbered entry i)
+-- The value at a place of a list, 0 past its end.
+abbrev pub nth : List ℕ → ℕ → ℕ
+nth values i = getD values i 0

@@ -10,10 +10,10 @@ ghost use Rattle.bits.specs.Bits.{unpack};
 ghost use Rattle.theory.specs.Model.{none};
 ghost use Rattle.sheet.specs.Answers.{when, first};
 ghost use Rattle.sheet.specs.Fields.{width, place, value, outside, among, judged};
-ghost use Rattle.sheet.specs.Steps.{opening, next, index, numbered, series};
+ghost use Rattle.sheet.specs.Steps.{opening, next, index, nth};
 ghost use Rattle.sheet.specs.Calls.{places, fieldsOf, judgedIn, judgeOf, packed, endOf, writeOf, bufferAfter, spelt, taskSpelt, entrySpelt, sheetOf, tailOf, readOf};
 ghost use Rattle.sheet.specs.Told.{told, toldSheet, toldBytes, refusalIn, blank, sheetIn};
-ghost use Rattle.sheet.specs.declared.Field.the-variants.{Entry};
+ghost use Rattle.sheet.specs.declared.Field.the-variants.{Rank, Entry};
 
 pub struct Sheet {
     pub tasks: [Task; 16],
@@ -132,12 +132,12 @@ fn task_of(s: Sheet, i: u16) -> Task
     }
 }
 
-fn entry_of(s: Sheet, i: u16) -> u8
-    ensures { λ r. ⌜ r ≡ getD (s .chain) i 0 ⌝ }
+fn nth_of(values: &[u8], i: u16) -> u8
+    ensures { λ r. ⌜ r ≡ nth (now (values .entry)) i ⌝ }
 {
-    if i < 16 {
-        let k = i as usize;
-        return s.chain[k];
+    let k = i as usize;
+    if k < values.len() {
+        return values[k];
     }
     0
 }
@@ -151,7 +151,10 @@ fn value_of(s: Sheet, f: Field) -> u32
         Field::Budget(i) => task_of(s, i).budget,
         Field::Rank(i) => wide(task_of(s, i).rank),
         Field::Length => wide(s.length),
-        Field::Entry(i) => wide(entry_of(s, i)),
+        Field::Entry(i) => {
+            let chain = s.chain;
+            wide(nth_of(&chain, i))
+        }
     }
 }
 
@@ -179,25 +182,27 @@ fn next_of(n: u16, f: Field) -> Field
     }
 }
 
-// A chain entry's field, or a rank's.
-fn numbered_of(entry: bool, j: u16) -> Field
-    ensures { λ r. ⌜ r ≡ numbered entry j ⌝ }
+fn ranks_of(s: Sheet) -> [u8; 16]
+    ensures { λ r. ⌜ nth r ≡ (λ j. value s (Rank j)) ⌝ }
 {
-    if entry {
-        return Field::Entry(j);
+    let mut ranks = [0u8; 16];
+    let mut k = 0usize;
+    while k < 16 {
+        ranks[k] = s.tasks[k].rank;
+        k += 1;
     }
-    Field::Rank(j)
+    ranks
 }
 
 // The refusal of an entry, or a rank, that repeats an earlier one.
-fn fresh(number: u8, s: Sheet, entry: bool, i: u16) -> Verdict
-    ensures { λ r. ⌜ told r ≡ when (among (series s entry) i (series s entry i)) number ⌝ }
+fn fresh(number: u8, values: &[u8], i: u16) -> Verdict
+    ensures { λ r. ⌜ told r ≡ when (among (nth (now (values .entry))) i (nth (now (values .entry)) i)) number ⌝ }
 {
-    let v = value_of(s, numbered_of(entry, i));
+    let v = nth_of(values, i);
     let mut j = i;
     while 0 < j {
         j -= 1;
-        if value_of(s, numbered_of(entry, j)) == v {
+        if nth_of(values, j) == v {
             return Verdict::No(Refusal::Number(number));
         }
     }
@@ -220,10 +225,11 @@ fn ranged(number: u8, low: u32, high: u32, v: u32) -> Verdict
 fn judge_entry(s: Sheet, i: u16) -> Verdict
     ensures { λ r. ⌜ told r ≡ judged s (Entry i) ⌝ }
 {
-    if s.count <= entry_of(s, i) {
+    let chain = s.chain;
+    if s.count <= nth_of(&chain, i) {
         return Verdict::No(Refusal::Number(7));
     }
-    fresh(8, s, true, i)
+    fresh(8, &chain, i)
 }
 
 fn judge_field(s: Sheet, f: Field) -> Verdict
@@ -236,7 +242,10 @@ fn judge_field(s: Sheet, f: Field) -> Verdict
             let t = task_of(s, i);
             ranged(4, 1, t.period, t.budget)
         }
-        Field::Rank(i) => fresh(5, s, false, i),
+        Field::Rank(i) => {
+            let ranks = ranks_of(s);
+            fresh(5, &ranks, i)
+        }
         Field::Length => ranged(6, 1, wide(s.count), wide(s.length)),
         Field::Entry(i) => judge_entry(s, i),
     }

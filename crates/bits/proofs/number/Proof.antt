@@ -1,83 +1,70 @@
--- After k turns the value is the number of the first k bits, which is below 2 ^ k.
-use mathlib.Core.Path.{_≡_, refl, sym, ap, ap₂, _∙_}
-use mathlib.Core.Bool.{false}
-use Prim.Native.Nat.{_+_, _-_, _*_, _^_, _≤_, min}
-use native.Mathlib.Numerals.{add-one}
+-- The bits lie within the forty that begin with their first byte.
+use mathlib.Core.Path.{ap, ap₂, _∙_}
+use Prim.Native.Nat.{ℕ, _+_, _-_, _*_, _/_, _%_, _^_}
+use native.Mathlib.Nat.{mod-lt}
 use native.Mathlib.Omega.{arith}
-use lib.Pow.{pow-mono}
-use lib.ListN.{getD}
+use lib.Pow.{pow-pos, pow-mono}
 use borrow.Author.Needs.{needs}
 use Rattle.bits.specs.Bits.{unpack, number}
-use Rattle.bits.specs.Laws.{one-lt, number-lt}
+use Rattle.bits.specs.Laws.{number-within}
 use Rattle.bits.proofs.number.Statement.{statement}
 use Rattle.bits.proofs.number.Tie as tie
 
-abbrev Inv-loop : tie.InvT-loop
-Inv-loop bytes at width end value₀ k₀ value k = (k ≤ end) × (end ≤ 32) × (value ≡ number (unpack bytes) at k)
-
-abbrev μ-loop : tie.MeasureT-loop
-μ-loop bytes at width end value₀ k₀ value k = end - k
-
-held-requires : tie.Need-held-requires Inv-loop μ-loop
+held-requires : tie.Need-held-requires
 held-requires c κs = search needs
 
-loop-holds : tie.Need-loop-holds Inv-loop μ-loop
-unfolding number
-loop-holds c = (omega arith, omega arith, refl)
+sub-rest : tie.Need-sub-rest
+sub-rest c = search needs
 
-mul-value : tie.Need-mul-value Inv-loop μ-loop
-mul-value c =
-    let a = c .before .before .before .before .args in
-    let l = c .before .loop in
-    omega (arith, number-lt (unpack (a .bytes .now)) (a .at) (l .k), pow-mono {i = l .k} {j = 31} (omega arith))
+sub-rest-2 : tie.Need-sub-rest-2
+sub-rest-2 c = search needs
 
-cast-bit : tie.Need-cast-bit Inv-loop μ-loop
-cast-bit c = search needs
+around-requires : tie.Need-around-requires
+around-requires c κs = search needs
 
-add-bit : tie.Need-add-bit Inv-loop μ-loop
-add-bit c = search needs
+cast-result : tie.Need-cast-result
+cast-result c = search needs
 
-bit-requires : tie.Need-bit-requires Inv-loop μ-loop
-bit-requires c κs = search needs
+shr-result : tie.Need-shr-result
+shr-result c = search needs
 
-add-value : tie.Need-add-value Inv-loop μ-loop
-add-value c =
-    let a = c .before .before .before .before .before .args in
-    let l = c .before .before .loop in
-    omega (arith, number-lt (unpack (a .bytes .now)) (a .at) (l .k), pow-mono {i = l .k} {j = 31} (omega arith), c .bit .ensures, one-lt (getD (unpack (a .bytes .now)) (a .at + l .k) false))
+cast-weight : tie.Need-cast-weight
+cast-weight c = search needs
 
-add-k : tie.Need-add-k Inv-loop μ-loop
-add-k c = search needs
+weight-requires : tie.Need-weight-requires
+weight-requires c κs = search needs
 
-loop-less : tie.Need-loop-less Inv-loop μ-loop
-loop-less c = search needs
+rem-result : tie.Need-rem-result
+rem-result c = omega (arith, c .weight .ensures, pow-pos (c .before .before .held .result))
 
-loop-again : tie.Need-loop-again Inv-loop μ-loop
-unfolding number
-loop-again c =
-    let a = c .before .before .before .before .before .args in
-    let l = c .before .before .loop in
-    (omega arith, omega arith, ap₂ (λ x y. x * 2 + y) (l .inv .2) (c .bit .ensures) ∙ ap (number (unpack (a .bytes .now)) (a .at)) (sym (add-one (l .k))))
+cast-result-2 : tie.Need-cast-result-2
+cast-result-2 c =
+    let end : ℕ = c .before .before .held .result in
+    let rest : ℕ = 40 - c .before .before .before .before .args .at % 8 - end in
+    omega (arith, mod-lt (c .before .around .result / 2 ^ rest) {m = c .weight .result} (omega (arith, c .weight .ensures, pow-pos end)), c .weight .ensures, pow-mono {i = end} {j = 32} (omega arith))
 
-returns : tie.Need-returns Inv-loop μ-loop
+returns : tie.Need-returns
 returns c =
     let a = c .before .before .before .before .args in
-    c .before .loop .inv .2 ∙ ap (number (unpack (a .bytes .now)) (a .at)) {x = c .before .loop .k} {y = min (a .width) 32} (omega arith)
+    let bs = unpack (a .bytes .now) in
+    let end : ℕ = c .before .before .held .result in
+    let rest : ℕ = 40 - a .at % 8 - end in
+    ap₂ (λ x w. x / 2 ^ rest % w) (c .before .around .ensures ∙ ap (number bs (a .at / 8 * 8)) {x = 40} {y = a .at % 8 + end + rest} (omega arith)) (c .weight .ensures)
+    ∙ number-within bs (a .at / 8 * 8) (a .at % 8) end rest
+    ∙ ap₂ (number bs) {x = a .at / 8 * 8 + a .at % 8} {y = a .at} (omega arith) (c .before .before .held .ensures)
 
 pub number-spec : {M : Type 1} → statement M
 number-spec =
     tie.close
     (tie.spec
-    Inv-loop
-    μ-loop
     held-requires
-    loop-holds
-    mul-value
-    cast-bit
-    add-bit
-    bit-requires
-    add-value
-    add-k
-    loop-less
-    loop-again
+    sub-rest
+    sub-rest-2
+    around-requires
+    cast-result
+    shr-result
+    cast-weight
+    weight-requires
+    rem-result
+    cast-result-2
     returns)

@@ -57,6 +57,9 @@ sub-put-bit-2 c = search needs
 shr-put-bit : tie.Need-shr-put-bit Inv-loop μ-loop
 shr-put-bit c = search needs
 
+cast-put-bit-2 : tie.Need-cast-put-bit-2 Inv-loop μ-loop
+cast-put-bit-2 c = search needs
+
 put-bit-requires : tie.Need-put-bit-requires Inv-loop μ-loop
 put-bit-requires c κs = search needs
 
@@ -104,6 +107,7 @@ put-spec =
     sub-put-bit
     sub-put-bit-2
     shr-put-bit
+    cast-put-bit-2
     put-bit-requires
     add-k
     loop-less

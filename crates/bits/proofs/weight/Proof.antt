@@ -1,18 +1,15 @@
--- A shift of 1 by less than 8 is a power of two that fits.
+-- A shift of 1 by less than 64 is a power of two that fits.
 use lib.Pow.{pow-mono}
 use native.Mathlib.Omega.{arith}
 use borrow.Author.Needs.{needs}
 use Rattle.bits.proofs.weight.Statement.{statement}
 use Rattle.bits.proofs.weight.Tie as tie
 
-cast-result : tie.Need-cast-result
-cast-result c = search needs
-
 shl-result : tie.Need-shl-result
 shl-result c = search needs
 
 returns : tie.Need-returns
-returns c = omega (arith, pow-mono {i = c .args .e} {j = 7} (omega arith))
+returns c = omega (arith, pow-mono {i = c .args .e} {j = 63} (omega arith))
 
 pub weight-spec : {M : Type 1} → statement M
-weight-spec = tie.close (tie.spec cast-result shl-result returns)
+weight-spec = tie.close (tie.spec shl-result returns)

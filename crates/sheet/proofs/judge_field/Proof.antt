@@ -1,7 +1,7 @@
 -- Each arm is the definition's clause for its field.
 use mathlib.Core.Path.{sym, ap, ap₂, _∙_}
 use Rattle.sheet.specs.Answers.{when}
-use Rattle.sheet.specs.Fields.{outside, judged}
+use Rattle.sheet.specs.Fields.{outside, among, judged}
 use borrow.Author.Needs.{needs}
 use Rattle.sheet.proofs.judge_field.Statement.{statement}
 use Rattle.sheet.proofs.judge_field.Tie as tie
@@ -35,6 +35,12 @@ ranged-requires-3 c κs = search needs
 
 enum-known-f-3 : tie.Need-enum-known-f-3
 enum-known-f-3 c = search needs
+
+ranks-of-requires : tie.Need-ranks-of-requires
+ranks-of-requires c κs = search needs
+
+slice-aggregate-fresh : tie.Need-slice-aggregate-fresh
+slice-aggregate-fresh c = search needs
 
 fresh-requires : tie.Need-fresh-requires
 fresh-requires c κs = search needs
@@ -79,7 +85,12 @@ returns-3 c =
     ∙ sym (ap (judged (a .s)) (c .before .before .before .f2 .given .1))
 
 returns-4 : tie.Need-returns-4
-returns-4 c = c .fresh .ensures ∙ sym (ap (judged (c .before .before .before .before .args .s)) (c .before .before .f3 .given .1))
+returns-4 c =
+    let a = c .before .before .before .before .before .before .args in
+    let i = c .before .before .before .before .f3 .given .0 .0 in
+    c .fresh .ensures
+    ∙ ap (λ r. when (among r i (r i)) 5) (c .before .before .ranks-of .ensures)
+    ∙ sym (ap (judged (a .s)) (c .before .before .before .before .f3 .given .1))
 
 returns-5 : tie.Need-returns-5
 returns-5 c =
@@ -105,6 +116,8 @@ judge-field-spec =
     task-of-requires-2
     ranged-requires-3
     enum-known-f-3
+    ranks-of-requires
+    slice-aggregate-fresh
     fresh-requires
     enum-told-2
     wide-requires-2

@@ -41,8 +41,11 @@ wide-requires-3 c κs = search needs
 enum-known-f-4 : tie.Need-enum-known-f-4
 enum-known-f-4 c = search needs
 
-entry-of-requires : tie.Need-entry-of-requires
-entry-of-requires c κs = search needs
+slice-aggregate-nth-of : tie.Need-slice-aggregate-nth-of
+slice-aggregate-nth-of c = search needs
+
+nth-of-requires : tie.Need-nth-of-requires
+nth-of-requires c κs = search needs
 
 wide-requires-4 : tie.Need-wide-requires-4
 wide-requires-4 c κs = search needs
@@ -66,8 +69,8 @@ returns-5 c = let a = c .before .before .before .args in c .wide3 .ensures ∙ s
 
 returns-6 : tie.Need-returns-6
 returns-6 c =
-    let a = c .before .before .before .before .before .args in
-    c .wide4 .ensures ∙ c .before .entry-of .ensures ∙ sym (ap (value (a .s)) (c .before .before .before .f4 .given .1))
+    let a = c .before .before .before .before .before .before .before .args in
+    c .wide4 .ensures ∙ c .before .nth-of .ensures ∙ sym (ap (value (a .s)) (c .before .before .before .before .before .f4 .given .1))
 
 pub value-of-spec : {M : Type 1} → statement M
 value-of-spec =
@@ -85,7 +88,8 @@ value-of-spec =
     enum-told-2
     wide-requires-3
     enum-known-f-4
-    entry-of-requires
+    slice-aggregate-nth-of
+    nth-of-requires
     wide-requires-4
     returns
     returns-2

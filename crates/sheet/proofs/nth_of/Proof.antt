@@ -1,0 +1,19 @@
+-- Past the end there is nothing.
+use mathlib.Core.Path.{sym}
+use native.Mathlib.Omega.{arith}
+use lib.ListN.{List·getD-eq-default}
+use borrow.Author.Needs.{needs}
+use Rattle.sheet.proofs.nth_of.Statement.{statement}
+use Rattle.sheet.proofs.nth_of.Tie as tie
+
+shared-slice-read-result : tie.Need-shared-slice-read-result
+shared-slice-read-result c = search needs
+
+returns : tie.Need-returns
+returns c = search needs
+
+returns-2 : tie.Need-returns-2
+returns-2 c = sym (List·getD-eq-default (c .before .args .values .now) 0 (omega arith))
+
+pub nth-of-spec : {M : Type 1} → statement M
+nth-of-spec = tie.close (tie.spec shared-slice-read-result returns returns-2)

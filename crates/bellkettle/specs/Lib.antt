@@ -2,5 +2,6 @@
 pub mod Answer
 -- What the functions under the calls answer each other, and laws of it.
 pub mod Steps
+pub mod Endings
 -- The result: one returned number and one content of lent memory for each input.
 pub mod Unique

@@ -4,7 +4,8 @@ use lib.ListN.{length}
 use Rattle.sheet.specs.Answers.{given, after}
 use Rattle.chain.specs.Answer.{boundOf}
 use Rattle.bellkettle.specs.Answer.{alone}
-use Rattle.bellkettle.specs.Steps.{toldOutcome, bound-told, ended-no, ended-given}
+use Rattle.bellkettle.specs.Steps.{toldOutcome}
+use Rattle.bellkettle.specs.Endings.{bound-told, ended-no, ended-given}
 use borrow.Author.Needs.{needs}
 use Rattle.bellkettle.proofs.bellkettle_bound.Statement.{statement}
 use Rattle.bellkettle.proofs.bellkettle_bound.Tie as tie

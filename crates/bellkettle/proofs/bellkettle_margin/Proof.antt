@@ -4,7 +4,8 @@ use lib.ListN.{length}
 use Rattle.sheet.specs.Answers.{given, after}
 use Rattle.chain.specs.Answer.{marginOf}
 use Rattle.bellkettle.specs.Answer.{signed}
-use Rattle.bellkettle.specs.Steps.{toldOutcome, margin-told, ended-no, ended-given}
+use Rattle.bellkettle.specs.Steps.{toldOutcome}
+use Rattle.bellkettle.specs.Endings.{margin-told, ended-no, ended-given}
 use borrow.Author.Needs.{needs}
 use Rattle.bellkettle.proofs.bellkettle_margin.Statement.{statement}
 use Rattle.bellkettle.proofs.bellkettle_margin.Tie as tie

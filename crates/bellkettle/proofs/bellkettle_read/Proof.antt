@@ -5,7 +5,7 @@ use lib.IntN.{pos}
 use Rattle.sheet.specs.Answers.{given}
 use Rattle.bellkettle.specs.declared.Outcome.the-variants.{Two}
 use Rattle.bellkettle.specs.Answer.{countsOf, periodsIn, budgetsIn, ranksIn, entriesIn, sixteen}
-use Rattle.bellkettle.specs.Steps.{returned-no, returned-given, untouched, touched}
+use Rattle.bellkettle.specs.Endings.{returned-no, returned-given, untouched, touched}
 use borrow.Author.Needs.{needs}
 use Rattle.bellkettle.proofs.bellkettle_read.Statement.{statement}
 use Rattle.bellkettle.proofs.bellkettle_read.Tie as tie

@@ -5,7 +5,8 @@ use Rattle.sheet.specs.Answers.{given, after}
 use Rattle.schedule.specs.Answer.{tasksOf, responsesOf}
 use Rattle.chain.specs.Cases.{table-leaves}
 use Rattle.bellkettle.specs.Answer.{totalsNumbers}
-use Rattle.bellkettle.specs.Steps.{toldOutcome, totals-told, ended-no, ended-given}
+use Rattle.bellkettle.specs.Steps.{toldOutcome}
+use Rattle.bellkettle.specs.Endings.{totals-told, ended-no, ended-given}
 use borrow.Author.Needs.{needs}
 use Rattle.bellkettle.proofs.bellkettle_responses.Statement.{statement}
 use Rattle.bellkettle.proofs.bellkettle_responses.Tie as tie

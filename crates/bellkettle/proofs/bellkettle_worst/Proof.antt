@@ -4,7 +4,8 @@ use lib.ListN.{length}
 use Rattle.sheet.specs.Answers.{given, after}
 use Rattle.chain.specs.Answer.{worstOf}
 use Rattle.bellkettle.specs.Answer.{figureNumbers}
-use Rattle.bellkettle.specs.Steps.{toldOutcome, worst-told, ended-no, ended-given}
+use Rattle.bellkettle.specs.Steps.{toldOutcome}
+use Rattle.bellkettle.specs.Endings.{worst-told, ended-no, ended-given}
 use borrow.Author.Needs.{needs}
 use Rattle.bellkettle.proofs.bellkettle_worst.Statement.{statement}
 use Rattle.bellkettle.proofs.bellkettle_worst.Tie as tie

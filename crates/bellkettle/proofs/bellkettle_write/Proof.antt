@@ -4,7 +4,8 @@ use lib.ListN.{length}
 use Rattle.sheet.specs.Answers.{given, after}
 use Rattle.sheet.specs.Calls.{writeOf, bufferAfter}
 use Rattle.bellkettle.specs.Answer.{alone, written}
-use Rattle.bellkettle.specs.Steps.{toldOutcome, size-told, returned-as, size-most}
+use Rattle.bellkettle.specs.Steps.{toldOutcome}
+use Rattle.bellkettle.specs.Endings.{size-told, returned-as, size-most}
 use borrow.Author.Needs.{needs}
 use Rattle.bellkettle.proofs.bellkettle_write.Statement.{statement}
 use Rattle.bellkettle.proofs.bellkettle_write.Tie as tie

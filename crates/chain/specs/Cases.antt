@@ -44,7 +44,7 @@ leaves-refusal : (A B : Type 0) (ts : List Task) (old : List ℕ) (r : Refusal) 
 leaves-refusal A B ts old (Number n) = refl
 leaves-refusal A B ts old (Late i) = refl
 
-after-refusal : {A B : Type 0} (r : Refusal) (next : A → Answer B) → after (refusal r) next ≡ refusal r
+pub after-refusal : {A B : Type 0} (r : Refusal) (next : A → Answer B) → after (refusal r) next ≡ refusal r
 after-refusal (Number n) next = refl
 after-refusal (Late i) next = refl
 

@@ -1,0 +1,78 @@
+-- Bytes that are refused end the call; else it ends as its namesake does with the sheet.
+use mathlib.Core.Path.{ap, _∙_}
+use lib.ListN.{length}
+use Rattle.sheet.specs.Answers.{given, after}
+use Rattle.chain.specs.Answer.{delayOf}
+use Rattle.bellkettle.specs.Answer.{alone}
+use Rattle.bellkettle.specs.Steps.{toldOutcome}
+use Rattle.bellkettle.specs.Endings.{delay-told, ended-no, ended-given}
+use borrow.Author.Needs.{needs}
+use Rattle.bellkettle.proofs.bellkettle_delay.Statement.{statement}
+use Rattle.bellkettle.proofs.bellkettle_delay.Tie as tie
+
+read-requires : tie.Need-read-requires
+read-requires c κs = search needs
+
+enum-told : tie.Need-enum-told
+enum-told c = search needs
+
+enum-told-2 : tie.Need-enum-told-2
+enum-told-2 c = search needs
+
+verdict-outcome-requires : tie.Need-verdict-outcome-requires
+verdict-outcome-requires c κs = search needs
+
+hand-requires : tie.Need-hand-requires
+hand-requires c κs = search needs
+
+same-length : tie.Need-same-length
+same-length c = search needs
+
+returns : tie.Need-returns
+returns c =
+    let a = c .before .before .before .before .before .before .before .before .before .args in
+    let r = c .before .before .before .before .before .before .read in
+    let o = c .before .before .before .verdict-outcome in
+    ended-no (a .sheet .now) (r .result) (r .ensures .0) (λ s. delayOf s (a .release) (length (a .table .now))) alone (o .result) (a .values .now) (a .table .now) (c .before .before .before .before .enum-told2 .given .1) (o .ensures) (c .before .hand .ensures)
+
+delay-requires : tie.Need-delay-requires
+delay-requires c κs = search needs
+
+delay-outcome-requires : tie.Need-delay-outcome-requires
+delay-outcome-requires c κs = search needs
+
+hand-requires-2 : tie.Need-hand-requires-2
+hand-requires-2 c κs = search needs
+
+same-length-2 : tie.Need-same-length-2
+same-length-2 c = search needs
+
+same-length-3 : tie.Need-same-length-3
+same-length-3 c = search needs
+
+returns-2 : tie.Need-returns-2
+returns-2 c =
+    let a = c .before .before .before .before .before .before .before .before .before .before .before .before .before .args in
+    let r = c .before .before .before .before .before .before .before .before .before .before .read in
+    let answer = c .before .before .before .before .before .before .delay in
+    let o = c .before .before .before .delay-outcome in
+    ended-given (a .sheet .now) (r .result) (r .ensures .0) (λ s. delayOf s (a .release) (length (a .table .now))) alone (o .result) (a .values .now) (a .table .now) (c .before .before .before .before .before .before .before .before .enum-told .given .1)
+    (ap toldOutcome (o .ensures) ∙ delay-told (answer .result) ∙ ap (λ x. after x (λ y. given (alone y))) (answer .ensures .0)) (c .before .hand2 .ensures) (answer .ensures .1)
+
+pub bellkettle-delay-spec : {M : Type 1} → statement M
+bellkettle-delay-spec =
+    tie.close
+    (tie.spec
+    read-requires
+    enum-told
+    enum-told-2
+    verdict-outcome-requires
+    hand-requires
+    same-length
+    returns
+    delay-requires
+    delay-outcome-requires
+    hand-requires-2
+    same-length-2
+    same-length-3
+    returns-2)

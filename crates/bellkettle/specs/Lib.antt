@@ -1,0 +1,7 @@
+-- The reader's part: what a call returns and leaves in lent memory.
+pub mod Answer
+-- What the functions under the calls answer each other, and laws of it.
+pub mod Steps
+pub mod Endings
+-- The result: one returned number and one content of lent memory for each input.
+pub mod Unique

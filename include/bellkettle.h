@@ -1,0 +1,119 @@
+/*
+ * Bellkettle for programs in C: how long a reading takes from the release of its sampling job to the end of the chain.
+ *
+ * Link libbellkettle.a (x86-64 Linux), which `rt staticlib bellkettle` writes. Every function below is proved to answer what the
+ * firm's page "From sheet to worst delay: the rules" (document 01) says, for every input, and to end. The library allocates nothing,
+ * has no variables of its own and takes only memcpy and memset from C's, so threads may call it at once with memory of their own.
+ *
+ * What a call is lent
+ *
+ * A pointer and the number of elements behind it stand side by side. The proof counts on these things and nothing else:
+ *  - each pointer is aligned for its type and has so many elements behind it, initialised, that the call may read and, unless they
+ *    are const, write;
+ *  - none of what a call may write overlaps with anything else that it is lent, and nothing else touches it during the call.
+ * A pointer with a length of 0 is never followed: it may be null.
+ *
+ * What a call returns
+ *
+ * 0, or the number of the refusal:
+ *
+ *    1  the sheet's bytes end inside a field
+ *    2  the number of tasks n is 0 or over 16
+ *    3  a period T is 0 or over 100,000
+ *    4  a budget C is 0 or over its T
+ *    5  a rank equals an earlier task's
+ *    6  the chain's length m is 0 or over n
+ *    7  a chain entry is n or more
+ *    8  a chain entry repeats an earlier one
+ *    9  a bit after the last field is 1, or a byte follows the last needed
+ *   10  the hyperperiod H is over 1,000,000
+ *   11  the number of jobs J is over 8,192
+ *   12  the release asked for is not a multiple of the first chain task's T, or is H or more
+ *   13  the limit is over 4,000,000
+ *   14  the lent table has fewer than J entries, or the lent buffer fewer bytes than the sheet takes
+ *   15  a task is late: with every budget used up, a job of it released before H is unfinished at its next release
+ *
+ * Of several one is given: 1 to 9 are judged front to back, each field when it is read, and 10 to 15 after them in this order.
+ *
+ * What a call leaves in lent memory
+ *
+ *  - values: the numbers that the call gives, from values[0] on; with 15 the index of the greatest-ranked late task in values[0];
+ *    with 1 to 14 nothing is written. A slice that is too short gets as many as it has places for; what is past them is not touched.
+ *  - table: with 0 the response of every job, task by task in sheet order, each task's jobs in release order: its row is H/T
+ *    entries, straight after the rows before it. With 15 zeros in the first J entries. With 1 to 14 nothing is written. Entries from
+ *    J on are never touched. What it held before never matters; BELLKETTLE_TABLE entries are always enough.
+ */
+#ifndef BELLKETTLE_H
+#define BELLKETTLE_H
+
+#include <stddef.h>
+#include <stdint.h>
+
+#ifdef __cplusplus
+extern "C" {
+#endif
+
+/* The entries of a table that is never too small, the most tasks, and the most bytes of a sheet. */
+#define BELLKETTLE_TABLE 8192
+#define BELLKETTLE_TASKS 16
+#define BELLKETTLE_SHEET 94
+
+/* values: H, J and the idle ticks before H. Refuses 1 to 9, 10, 11, 14, 15. */
+uint8_t bellkettle_responses(const uint8_t *sheet, size_t sheet_length,
+                             uint32_t *table, size_t table_length,
+                             int64_t *values, size_t values_length);
+
+/* values: the delay of the chain at a release of its first task. Refuses 1 to 9, 10, 11, 12, 14, 15. */
+uint8_t bellkettle_delay(const uint8_t *sheet, size_t sheet_length, uint32_t release,
+                         uint32_t *table, size_t table_length,
+                         int64_t *values, size_t values_length);
+
+/* values: the worst figure, and the smallest release that gives it. Refuses 1 to 9, 10, 11, 14, 15. */
+uint8_t bellkettle_worst(const uint8_t *sheet, size_t sheet_length,
+                         uint32_t *table, size_t table_length,
+                         int64_t *values, size_t values_length);
+
+/* values: the quick bound. Refuses 1 to 9, 10, 11, 14, 15. */
+uint8_t bellkettle_bound(const uint8_t *sheet, size_t sheet_length,
+                         uint32_t *table, size_t table_length,
+                         int64_t *values, size_t values_length);
+
+/* values: the limit less the worst figure, below zero where the limit is not kept. Refuses 1 to 9, 10, 11, 13, 14, 15. */
+uint8_t bellkettle_margin(const uint8_t *sheet, size_t sheet_length, uint32_t limit,
+                          uint32_t *table, size_t table_length,
+                          int64_t *values, size_t values_length);
+
+/* values: the margin under a limit of 1,000 ticks. Refuses 1 to 9, 10, 11, 14, 15. */
+uint8_t bellkettle_default_margin(const uint8_t *sheet, size_t sheet_length,
+                                  uint32_t *table, size_t table_length,
+                                  int64_t *values, size_t values_length);
+
+/*
+ * The fields in a sheet's bytes. values: n and m. Refuses 1 to 9, and then writes nothing. Else task i's period, budget and rank
+ * are in periods[i], budgets[i] and ranks[i], the chain's entries in chain[0] to chain[m - 1], and zeros from there on up to the
+ * sixteenth place. A slice of fewer than sixteen places gets as many as it has; what is past the sixteenth is not touched.
+ */
+uint8_t bellkettle_read(const uint8_t *sheet, size_t sheet_length,
+                        uint32_t *periods, size_t periods_length,
+                        uint32_t *budgets, size_t budgets_length,
+                        uint8_t *ranks, size_t ranks_length,
+                        uint8_t *chain, size_t chain_length,
+                        int64_t *values, size_t values_length);
+
+/*
+ * The bytes of the sheet with these fields. n is periods_length, which budgets_length and ranks_length must equal: where they do
+ * not, n counts as 0 and the refusal is 2. m is chain_length. values: how many bytes the sheet takes, at most BELLKETTLE_SHEET; they
+ * stand at the front of out, and out is not touched past them. Refuses 2 to 8, then 14, and then leaves out as it was.
+ */
+uint8_t bellkettle_write(const uint32_t *periods, size_t periods_length,
+                         const uint32_t *budgets, size_t budgets_length,
+                         const uint8_t *ranks, size_t ranks_length,
+                         const uint8_t *chain, size_t chain_length,
+                         uint8_t *out, size_t out_length,
+                         int64_t *values, size_t values_length);
+
+#ifdef __cplusplus
+}
+#endif
+
+#endif

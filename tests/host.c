@@ -1,0 +1,374 @@
+/*
+ * A program in C over the library: every function of include/bellkettle.h on the sheets of document 01, on each refusal that can
+ * come of it, and on lent memory that is just large enough, too short by one, or empty. Figures are document 01's.
+ */
+#include "bellkettle.h"
+
+#include <inttypes.h>
+#include <stdio.h>
+#include <stdlib.h>
+#include <string.h>
+
+#define MARK 0x5a5a5a5a
+#define MARK_BYTE 0x5a
+
+static unsigned checks;
+
+static void expect(const char *sheet, const char *what, int64_t got, int64_t wanted) {
+    checks++;
+    if (got != wanted) {
+        printf("host: %s: %s: got %" PRId64 ", expected %" PRId64 "\n", sheet, what, got, wanted);
+        exit(1);
+    }
+}
+
+/* The fields of a sheet as they would be written, allowed or not. */
+struct fields {
+    const char *name;
+    uint32_t n;
+    uint32_t periods[BELLKETTLE_TASKS], budgets[BELLKETTLE_TASKS];
+    uint8_t ranks[BELLKETTLE_TASKS];
+    uint32_t m;
+    uint8_t chain[BELLKETTLE_TASKS];
+};
+
+struct bytes {
+    uint8_t at[BELLKETTLE_SHEET + 2];
+    size_t bits;
+};
+
+/* Most significant bit first, with no gaps. */
+static void pack_number(struct bytes *out, unsigned width, uint32_t number) {
+    for (unsigned bit = width; bit-- > 0; out->bits++) {
+        out->at[out->bits / 8] |= (uint8_t)((number >> bit & 1) << (7 - out->bits % 8));
+    }
+}
+
+static struct bytes pack(const struct fields *f) {
+    struct bytes out = {{0}, 0};
+    pack_number(&out, 5, f->n);
+    for (uint32_t i = 0; i < f->n && i < BELLKETTLE_TASKS; i++) {
+        pack_number(&out, 17, f->periods[i]);
+        pack_number(&out, 17, f->budgets[i]);
+        pack_number(&out, 8, f->ranks[i]);
+    }
+    pack_number(&out, 5, f->m);
+    for (uint32_t i = 0; i < f->m && i < BELLKETTLE_TASKS; i++) {
+        pack_number(&out, 4, f->chain[i]);
+    }
+    return out;
+}
+
+static size_t size_of(const struct bytes *b) {
+    return (b->bits + 7) / 8;
+}
+
+/* Lent memory with a pattern in it, and one place more than is lent. */
+static uint32_t table[BELLKETTLE_TABLE + 1];
+static int64_t values[4];
+
+static void mark(void) {
+    for (size_t i = 0; i <= BELLKETTLE_TABLE; i++) {
+        table[i] = MARK;
+    }
+    for (size_t i = 0; i < 4; i++) {
+        values[i] = MARK;
+    }
+}
+
+static void expect_marked(const char *sheet, size_t value, size_t entry) {
+    for (size_t i = value; i < 4; i++) {
+        expect(sheet, "a value that is not given", values[i], MARK);
+    }
+    size_t touched = 0;
+    for (size_t i = entry; i <= BELLKETTLE_TABLE; i++) {
+        touched += table[i] != MARK;
+    }
+    expect(sheet, "entries touched that are not to be", (int64_t)touched, 0);
+}
+
+/* The six calls that fill a table, in one form. */
+enum call { RESPONSES, DELAY, WORST, BOUND, MARGIN, DEFAULT_MARGIN };
+
+static uint8_t ask(enum call call, const uint8_t *sheet, size_t length, uint32_t number, size_t room, size_t places) {
+    switch (call) {
+    case RESPONSES: return bellkettle_responses(sheet, length, table, room, values, places);
+    case DELAY: return bellkettle_delay(sheet, length, number, table, room, values, places);
+    case WORST: return bellkettle_worst(sheet, length, table, room, values, places);
+    case BOUND: return bellkettle_bound(sheet, length, table, room, values, places);
+    case MARGIN: return bellkettle_margin(sheet, length, number, table, room, values, places);
+    default: return bellkettle_default_margin(sheet, length, table, room, values, places);
+    }
+}
+
+/* A call that is taken: its values, and the rows, in a table of exactly so many entries. */
+static void expect_given(const struct fields *f, enum call call, uint32_t number, size_t jobs, const uint32_t *rows, size_t count, const int64_t *wanted) {
+    struct bytes sheet = pack(f);
+    mark();
+    expect(f->name, "the number returned", ask(call, sheet.at, size_of(&sheet), number, jobs, count), 0);
+    for (size_t i = 0; i < count; i++) {
+        expect(f->name, "a value", values[i], wanted[i]);
+    }
+    for (size_t i = 0; rows != NULL && i < jobs; i++) {
+        expect(f->name, "a response", table[i], rows[i]);
+    }
+    expect_marked(f->name, count, jobs);
+}
+
+/* A refusal of 1 to 14 by any of the six. */
+static void expect_refused(const char *name, enum call call, const uint8_t *sheet, size_t length, uint32_t number, size_t room, uint8_t refusal) {
+    mark();
+    expect(name, "the refusal", ask(call, sheet, length, number, room, 3), refusal);
+    expect_marked(name, 0, 0);
+}
+
+static void expect_all_refuse(const char *name, const uint8_t *sheet, size_t length, size_t room, uint8_t refusal) {
+    for (enum call call = RESPONSES; call <= DEFAULT_MARGIN; call++) {
+        expect_refused(name, call, sheet, length, 0, room, refusal);
+    }
+}
+
+/* The fields in a sheet's bytes, in exactly sixteen places each; or none of them. */
+static void expect_read(const char *name, const uint8_t *sheet, size_t length, uint8_t refusal, const struct fields *f) {
+    uint32_t periods[17], budgets[17];
+    uint8_t ranks[17], chain[17];
+    for (size_t i = 0; i < 17; i++) {
+        periods[i] = budgets[i] = MARK;
+        ranks[i] = chain[i] = MARK_BYTE;
+    }
+    mark();
+    expect(name, "reading", bellkettle_read(sheet, length, periods, 16, budgets, 16, ranks, 16, chain, 16, values, 2), refusal);
+    expect_marked(name, refusal == 0 ? 2 : 0, 0);
+    for (size_t i = 0; i < 17; i++) {
+        int given = refusal == 0 && i < 16;
+        expect(name, "a period read", periods[i], !given ? MARK : i < f->n ? f->periods[i] : 0);
+        expect(name, "a budget read", budgets[i], !given ? MARK : i < f->n ? f->budgets[i] : 0);
+        expect(name, "a rank read", ranks[i], !given ? MARK_BYTE : i < f->n ? f->ranks[i] : 0);
+        expect(name, "an entry read", chain[i], !given ? MARK_BYTE : i < f->m ? f->chain[i] : 0);
+    }
+    if (refusal == 0) {
+        expect(name, "n read", values[0], f->n);
+        expect(name, "m read", values[1], f->m);
+    }
+}
+
+/* The bytes of fields, in a buffer of so many. */
+static void expect_written(const struct fields *f, size_t room, uint8_t refusal) {
+    struct bytes wanted = pack(f);
+    uint8_t out[BELLKETTLE_SHEET + 2];
+    memset(out, MARK_BYTE, sizeof out);
+    mark();
+    expect(f->name, "writing", bellkettle_write(f->periods, f->n, f->budgets, f->n, f->ranks, f->n, f->chain, f->m, out, room, values, 1), refusal);
+    size_t size = refusal == 0 ? size_of(&wanted) : 0;
+    for (size_t i = 0; i < sizeof out; i++) {
+        expect(f->name, "a byte written", out[i], i < size ? wanted.at[i] : MARK_BYTE);
+    }
+    if (refusal == 0) {
+        expect(f->name, "the size written", values[0], (int64_t)size);
+    }
+    expect_marked(f->name, refusal == 0 ? 1 : 0, 0);
+}
+
+/* A sheet that is taken, read and written; with its table too small by one entry, every call refuses it. */
+static void expect_sheet(const struct fields *f, size_t jobs) {
+    struct bytes sheet = pack(f);
+    expect_read(f->name, sheet.at, size_of(&sheet), 0, f);
+    expect_read(f->name, sheet.at, size_of(&sheet) - 1, 1, f);
+    expect_written(f, size_of(&sheet), 0);
+    expect_written(f, size_of(&sheet) + 1, 0);
+    expect_written(f, size_of(&sheet) - 1, 14);
+    expect_all_refuse(f->name, sheet.at, size_of(&sheet), jobs - 1, 14);
+}
+
+static const struct fields trio = {"Trio", 3, {8, 2, 4}, {1, 1, 1}, {1, 3, 2}, 3, {0, 1, 2}};
+static const struct fields radio = {"Radio", 3, {20, 6, 12}, {5, 1, 3}, {1, 3, 2}, 3, {0, 1, 2}};
+static const struct fields radio_short = {"Radio, chain 0 1", 3, {20, 6, 12}, {5, 1, 3}, {1, 3, 2}, 2, {0, 1}};
+static const struct fields quartet = {"Quartet", 4, {6, 6, 3, 6}, {1, 1, 1, 1}, {4, 3, 2, 1}, 2, {2, 3}};
+static const struct fields lone = {"Lone", 1, {5}, {5}, {1}, 1, {0}};
+static const struct fields budget_over = {"a budget over its period", 1, {5}, {6}, {1}, 1, {0}};
+static const struct fields late = {"a late task", 2, {2, 3}, {1, 2}, {2, 1}, 1, {0}};
+static const struct fields longest = {"periods 1,000 and 999", 2, {1000, 999}, {1, 1}, {2, 1}, 1, {0}};
+static const struct fields too_long = {"periods 1,000 and 1,001", 2, {1000, 1001}, {1, 1}, {2, 1}, 1, {0}};
+static const struct fields most_jobs = {"periods 2 and 16,382", 2, {2, 16382}, {1, 1}, {2, 1}, 1, {0}};
+static const struct fields too_many = {"periods 2 and 16,384", 2, {2, 16384}, {1, 1}, {2, 1}, 1, {0}};
+
+static void document_one(void) {
+    const uint32_t rows[] = {4, 1, 1, 1, 1, 2, 2};
+    expect_sheet(&trio, 7);
+    expect_given(&trio, RESPONSES, 0, 7, rows, 3, (int64_t[]){8, 7, 1});
+    expect_given(&trio, WORST, 0, 7, rows, 2, (int64_t[]){6, 0});
+    expect_given(&trio, BOUND, 0, 7, rows, 1, (int64_t[]){8});
+}
+
+static void document_two_and_three(void) {
+    const uint32_t rows[] = {10, 9, 6, 1, 1, 1, 1, 1, 1, 1, 1, 1, 1, 4, 4, 4, 4, 4};
+    expect_sheet(&radio, 18);
+    expect_given(&radio, RESPONSES, 0, 18, rows, 3, (int64_t[]){60, 18, 20});
+    expect_given(&radio, DELAY, 0, 18, rows, 1, (int64_t[]){16});
+    expect_given(&radio, DELAY, 20, 18, rows, 1, (int64_t[]){20});
+    expect_given(&radio, DELAY, 40, 18, rows, 1, (int64_t[]){12});
+    expect_given(&radio, WORST, 0, 18, rows, 2, (int64_t[]){20, 20});
+    expect_given(&radio, BOUND, 0, 18, rows, 1, (int64_t[]){24});
+    expect_given(&radio, DEFAULT_MARGIN, 0, 18, rows, 1, (int64_t[]){980});
+    expect_given(&radio, MARGIN, 1000, 18, rows, 1, (int64_t[]){980});
+    expect_given(&radio, MARGIN, 0, 18, rows, 1, (int64_t[]){-20});
+    expect_given(&radio, MARGIN, 4000000, 18, rows, 1, (int64_t[]){3999980});
+
+    expect_sheet(&radio_short, 18);
+    expect_given(&radio_short, DELAY, 0, 18, rows, 1, (int64_t[]){13});
+    expect_given(&radio_short, DELAY, 20, 18, rows, 1, (int64_t[]){11});
+    expect_given(&radio_short, DELAY, 40, 18, rows, 1, (int64_t[]){9});
+    expect_given(&radio_short, WORST, 0, 18, rows, 2, (int64_t[]){13, 0});
+    expect_given(&radio_short, BOUND, 0, 18, rows, 1, (int64_t[]){15});
+}
+
+static void document_four_to_six(void) {
+    expect_sheet(&quartet, 5);
+    expect_given(&quartet, WORST, 0, 5, NULL, 2, (int64_t[]){8, 3});
+    expect_given(&quartet, BOUND, 0, 5, NULL, 1, (int64_t[]){8});
+
+    const uint8_t printed[] = {0x08, 0x00, 0x14, 0x00, 0x0A, 0x02, 0x10};
+    expect_sheet(&lone, 1);
+    expect_read("Lone as printed", printed, sizeof printed, 0, &lone);
+    expect_given(&lone, WORST, 0, 1, (uint32_t[]){5}, 2, (int64_t[]){5, 0});
+    expect_given(&lone, BOUND, 0, 1, (uint32_t[]){5}, 1, (int64_t[]){5});
+
+    struct bytes sheet = pack(&budget_over);
+    expect_all_refuse(budget_over.name, sheet.at, size_of(&sheet), 1, 4);
+    expect_read(budget_over.name, sheet.at, size_of(&sheet), 4, &budget_over);
+    expect_written(&budget_over, BELLKETTLE_SHEET, 4);
+}
+
+/* 15 gives the late task and leaves zeros in the first J entries, here 3 and 2. */
+static void document_seven(void) {
+    struct bytes sheet = pack(&late);
+    expect_sheet(&late, 5);
+    for (enum call call = RESPONSES; call <= DEFAULT_MARGIN; call++) {
+        for (size_t places = 0; places < 2; places++) {
+            mark();
+            expect(late.name, "the refusal", ask(call, sheet.at, size_of(&sheet), 0, 5, places), 15);
+            if (places > 0) {
+                expect(late.name, "the task", values[0], 1);
+            }
+            for (size_t i = 0; i < 5; i++) {
+                expect(late.name, "a zero", table[i], 0);
+            }
+            expect_marked(late.name, places, 5);
+        }
+    }
+}
+
+static void document_eight_to_ten(void) {
+    struct bytes sheet = pack(&longest);
+    expect(longest.name, "taken", ask(RESPONSES, sheet.at, size_of(&sheet), 0, BELLKETTLE_TABLE, 3), 0);
+    expect(longest.name, "H", values[0], 999000);
+    expect_sheet(&most_jobs, BELLKETTLE_TABLE);
+    sheet = pack(&most_jobs);
+    expect(most_jobs.name, "taken", ask(RESPONSES, sheet.at, size_of(&sheet), 0, BELLKETTLE_TABLE, 3), 0);
+    expect(most_jobs.name, "J", values[1], 8192);
+
+    sheet = pack(&too_long);
+    expect_all_refuse(too_long.name, sheet.at, size_of(&sheet), 0, 10);
+    sheet = pack(&too_many);
+    expect_all_refuse(too_many.name, sheet.at, size_of(&sheet), 0, 11);
+
+    sheet = pack(&lone);
+    expect_all_refuse("no bytes", NULL, 0, 1, 1);
+    expect_read("no bytes", NULL, 0, 1, &lone);
+    expect_all_refuse("one byte more", sheet.at, size_of(&sheet) + 1, 1, 9);
+    expect_read("one byte more", sheet.at, size_of(&sheet) + 1, 9, &lone);
+
+    sheet = pack(&radio);
+    sheet.at[size_of(&sheet) - 1] |= 1;
+    expect_all_refuse("a padding bit", sheet.at, size_of(&sheet), 1, 9);
+    expect_read("a padding bit", sheet.at, size_of(&sheet), 9, &radio);
+}
+
+/* 2 to 8, in bytes and in memory. */
+static void refusals_of_fields(void) {
+    const struct {
+        uint8_t refusal;
+        struct fields fields;
+    } refused[] = {
+        {2, {"no task", 0, {0}, {0}, {0}, 0, {0}}},
+        {3, {"no period", 1, {0}, {1}, {1}, 1, {0}}},
+        {3, {"a period over 100,000", 1, {100001}, {1}, {1}, 1, {0}}},
+        {4, {"no budget", 1, {5}, {0}, {1}, 1, {0}}},
+        {5, {"a rank twice", 2, {5, 6}, {1, 1}, {7, 7}, 1, {0}}},
+        {6, {"no chain", 1, {5}, {1}, {1}, 0, {0}}},
+        {6, {"a chain over n", 1, {5}, {1}, {1}, 2, {0, 0}}},
+        {7, {"an entry that is n", 2, {5, 6}, {1, 1}, {1, 2}, 1, {2}}},
+        {8, {"an entry twice", 2, {5, 6}, {1, 1}, {1, 2}, 2, {1, 1}}},
+    };
+    for (size_t i = 0; i < sizeof refused / sizeof *refused; i++) {
+        const struct fields *f = &refused[i].fields;
+        struct bytes sheet = pack(f);
+        expect_all_refuse(f->name, sheet.at, size_of(&sheet), 0, refused[i].refusal);
+        expect_read(f->name, sheet.at, size_of(&sheet), refused[i].refusal, f);
+        expect_written(f, BELLKETTLE_SHEET, refused[i].refusal);
+    }
+}
+
+/* More tasks or entries than there are places, and slices that are not of one length. */
+static void refusals_of_lengths(void) {
+    uint32_t numbers[300];
+    uint8_t bytes[300], out[BELLKETTLE_SHEET];
+    for (size_t i = 0; i < 300; i++) {
+        numbers[i] = 1;
+        bytes[i] = (uint8_t)i;
+    }
+    const uint8_t seventeen[] = {0x88, 0, 0, 0, 0, 0, 0};
+    expect_all_refuse("seventeen tasks", seventeen, sizeof seventeen, 0, 2);
+    expect("seventeen tasks", "writing", bellkettle_write(numbers, 17, numbers, 17, bytes, 17, bytes, 1, out, sizeof out, values, 1), 2);
+    expect("257 tasks", "writing", bellkettle_write(numbers, 257, numbers, 257, bytes, 257, bytes, 1, out, sizeof out, values, 1), 2);
+    expect("257 entries", "writing", bellkettle_write(numbers, 1, numbers, 1, bytes, 1, bytes, 257, out, sizeof out, values, 1), 6);
+    expect("a budget missing", "writing", bellkettle_write(numbers, 2, numbers, 1, bytes, 2, bytes, 1, out, sizeof out, values, 1), 2);
+    expect("a rank missing", "writing", bellkettle_write(numbers, 2, numbers, 2, bytes, 1, bytes, 1, out, sizeof out, values, 1), 2);
+    expect("a rank too many", "writing", bellkettle_write(numbers, 2, numbers, 2, bytes, 3, bytes, 1, out, sizeof out, values, 1), 2);
+    expect("nothing", "writing", bellkettle_write(NULL, 0, NULL, 0, NULL, 0, NULL, 0, NULL, 0, NULL, 0), 2);
+    expect("sixteen tasks", "writing", bellkettle_write(numbers, 16, numbers, 16, bytes, 16, bytes, 16, out, sizeof out, values, 1), 0);
+    expect("sixteen tasks", "the size", values[0], BELLKETTLE_SHEET);
+}
+
+/* 12 and 13 come before 14. */
+static void refusals_of_numbers(void) {
+    struct bytes sheet = pack(&radio);
+    size_t size = size_of(&sheet);
+    expect_refused("a release between two", DELAY, sheet.at, size, 1, 0, 12);
+    expect_refused("a release at H", DELAY, sheet.at, size, 60, 0, 12);
+    expect_refused("a release at the last number", DELAY, sheet.at, size, UINT32_MAX, 18, 12);
+    expect_refused("a limit over the most", MARGIN, sheet.at, size, 4000001, 0, 13);
+    expect_refused("a limit at the last number", MARGIN, sheet.at, size, UINT32_MAX, 18, 13);
+}
+
+/* Lent memory that is short or none gets as much as it has places for. */
+static void short_memory(void) {
+    struct bytes sheet = pack(&radio);
+    size_t size = size_of(&sheet);
+    mark();
+    expect("one value of two", "the number returned", ask(WORST, sheet.at, size, 0, 18, 1), 0);
+    expect("one value of two", "the value", values[0], 20);
+    expect_marked("one value of two", 1, 18);
+    expect("nothing lent", "the refusal", bellkettle_worst(sheet.at, size, NULL, 0, NULL, 0), 14);
+    expect("no values lent", "the number returned", bellkettle_worst(sheet.at, size, table, 18, NULL, 0), 0);
+
+    uint32_t periods[] = {MARK, MARK, MARK};
+    expect("two periods of three", "reading", bellkettle_read(sheet.at, size, periods, 2, NULL, 0, NULL, 0, NULL, 0, NULL, 0), 0);
+    expect("two periods of three", "the first", periods[0], 20);
+    expect("two periods of three", "the second", periods[1], 6);
+    expect("two periods of three", "the third", periods[2], MARK);
+}
+
+int main(void) {
+    document_one();
+    document_two_and_three();
+    document_four_to_six();
+    document_seven();
+    document_eight_to_ten();
+    refusals_of_fields();
+    refusals_of_lengths();
+    refusals_of_numbers();
+    short_memory();
+    printf("host: %u checks\n", checks);
+    return 0;
+}

@@ -8,11 +8,11 @@ use native.Mathlib.Omega.{arith}
 use lib.Dec.{leb}
 use lib.ListN.{length, getD}
 use lib.Seq.{ext-getD}
-use borrow.Author.Tests.{le-leb, eq-eqb}
+use borrow.Author.Tests.{eq-eqb}
 use Rattle.bits.specs.Lists.{length-listOf, getD-listOf}
 use Rattle.theory.specs.declared.Task.{Task}
-use Rattle.theory.specs.Ranges.{sum, sum-le, sum-const, sum-grows}
-use Rattle.theory.specs.Model.{period, budget, rank, need, released, due}
+use Rattle.theory.specs.Ranges.{sum-le, sum-const}
+use Rattle.theory.specs.Model.{none, period, budget, rank, need, released, due}
 use Rattle.theory.specs.Responses.{full, response, jobs}
 use Rattle.theory.specs.Work.{due-step, due-jobs}
 use Rattle.theory.specs.Level.{level, level-add, level-le, level-eq}
@@ -26,12 +26,12 @@ use Rattle.schedule.specs.declared.answer.Row.the-variants.{Rests, Late}
 use Rattle.schedule.specs.Answer.{mostTicks, tasksOf, lateTask, row}
 use Rattle.schedule.specs.Lateness.{job-late, late-job}
 use Rattle.schedule.specs.Cases.{sound-proper}
-use Rattle.schedule.specs.Steps.{Taken, Period, brings, coming, restsTo, Level, Walk, Walked, RowFilled}
-use Rattle.schedule.proofs.Tasks.{tasks-length, task-fine}
+use Rattle.schedule.specs.Steps.{Taken, Period, brings, placed, coming, mostClear, restsTo, Level, Walk, Walked, RowFilled}
+use Rattle.schedule.proofs.Tasks.{tasks-length, task-fine, level-own}
 
 -- What comes in is the load of the level.
-pub coming-load : {ts : List Task} {i : ℕ} {periods budgets : List ℕ} {size : ℕ} → Level ts i periods budgets size → coming periods budgets size ≡ load ts (full ts) i
-unfolding coming load released
+pub coming-load : {ts : List Task} {i : ℕ} {periods budgets : List ℕ} {size : ℕ} → Level ts i periods budgets size → coming (getD ts i none) periods budgets size ≡ load ts (full ts) i
+unfolding coming placed load released
 coming-load g = fun-ext (λ t. g .sums (brings t))
 
 part-most : (b : Bool) (x : ℕ) → cond b x 0 ≤ x
@@ -50,14 +50,11 @@ module _ {s : Sheet} (ok : Taken s) (i : ℕ) (known : i < s .count) where
 
   -- A task's own jobs are work of its level.
   own-load : (k : ℕ) → 0 < a (k * period ts i)
-  unfolding load level released sum
-  own-load k = omega (arith, own, sum-grows part (suc i) (length ts) listed, task-fine ok i listed .budget-positive)
+  unfolding load released
+  own-load k = omega (arith, own, level-own ok i known (λ j. released ts (full ts) j (k * period ts i)), task-fine ok i listed .budget-positive)
     where
-      part : ℕ → ℕ
-      part j = cond (leb (rank ts i) (rank ts j)) (released ts (full ts) j (k * period ts i)) 0
-
-      own : part i ≡ budget ts i
-      own = rw (le-leb (rank ts i) (rank ts i) (le-refl _), eq-eqb (k * period ts i % period ts i) 0 (mul-mod-left k (period ts i)))
+      own : released ts (full ts) i (k * period ts i) ≡ budget ts i
+      own = rw (eq-eqb (k * period ts i % period ts i) 0 (mul-mod-left k (period ts i)))
 
   -- A task never has more work due than ticks have passed, and a period.
   due-most : (j t : ℕ) → j < length ts → t ≤ mostTicks → due ts (full ts) j (suc t) ≤ 1100000
@@ -71,7 +68,7 @@ module _ {s : Sheet} (ok : Taken s) (i : ℕ) (known : i < s .count) where
     task-fine ok j l .period-most,
   )
 
-  work-most : (t : ℕ) → t ≤ mostTicks → drain a t + a t ≤ 20000000
+  work-most : (t : ℕ) → t ≤ mostTicks → t + drain a t + a t ≤ mostClear
   unfolding load level
   work-most t l = omega (
     arith,

@@ -66,17 +66,17 @@ module _ (a : ℕ → ℕ) (t e : ℕ) (quiet : Quiet a t e) where
           one : suc (m - t) ≡ suc m - t
           one = omega arith
 
--- From tick t, with so much work, to e: until then no more comes in.
-pub record Gap (a : ℕ → ℕ) (t e h work : ℕ) : Type 0 where
+-- From tick t to e, with work that is done by tick `clear`: until e no more comes in.
+pub record Gap (a : ℕ → ℕ) (t e h clear : ℕ) : Type 0 where
   pub later : t < e
   pub within : e ≤ h
   pub quiet : Quiet a t e
-  pub works : work ≡ drain a t + a t
+  pub clears : clear ≡ t + drain a t + a t
 
 -- The walk at tick t: job k, released at `release`, is the next to finish, and has not if it is released.
-pub record Underway (a : ℕ → ℕ) (T h n t left rests release k : ℕ) (xs : List ℕ) : Type 0 where
+pub record Underway (a : ℕ → ℕ) (T h n t clear rests release k : ℕ) (xs : List ℕ) : Type 0 where
   pub so-far : t ≤ h
-  pub left-is : left ≡ drain a t
+  pub clear-is : clear ≡ t + drain a t
   pub rests-are : rests ≡ restsTo a t
   pub release-is : release ≡ k * T
   pub due : t < release + T
@@ -90,7 +90,7 @@ module _ {a : ℕ → ℕ} {T h n : ℕ} (w : Walk a T h n) where
   unfolding drain restsTo sum
   start xs whole = record {
     so-far = omega arith;
-    left-is = refl;
+    clear-is = refl;
     rests-are = refl;
     release-is = omega arith;
     due = omega (arith, w .period-positive);
@@ -100,11 +100,11 @@ module _ {a : ℕ → ℕ} {T h n : ℕ} (w : Walk a T h n) where
     cleared = λ m l. absurd (omega arith);
   }
 
-  pub release-most : {t left rests release k : ℕ} {xs : List ℕ} → Underway a T h n t left rests release k xs → release ≤ h
+  pub release-most : {t clear rests release k : ℕ} {xs : List ℕ} → Underway a T h n t clear rests release k xs → release ≤ h
   release-most {k = k} s = omega (arith, s .release-is, w .ends, mul-le-mul-right {m = k} {n = n} T (s .few))
 
   -- At the end every job is done.
-  pub finished : {t left rests release k : ℕ} {xs : List ℕ} → Underway a T h n t left rests release k xs → h ≤ t
+  pub finished : {t clear rests release k : ℕ} {xs : List ℕ} → Underway a T h n t clear rests release k xs → h ≤ t
       → ((m : ℕ) → m < length xs → Cleared a T m (getD xs m 0)) × (rests ≡ restsTo a h)
   finished {t = t} {release = release} {k = k} {xs = xs} s l = (λ m q. s .cleared m (omega (arith, s .whole, all (decLt k n))), s .rests-are ∙ ap (restsTo a) (omega (arith, s .so-far)))
     where
@@ -112,10 +112,7 @@ module _ {a : ℕ → ℕ} {T h n : ℕ} (w : Walk a T h n) where
       all (yes q) = absurd (omega (arith, s .due, s .release-is, w .ends, mul-le-mul-right {m = suc k} {n = n} T q))
       all (no q) = omega arith
 
-  module _ {t left rests release k e work : ℕ} {xs : List ℕ} (s : Underway a T h n t left rests release k xs) (gap : Gap a t e h work) where
-    pub work-fits : work ≤ 20000000
-    work-fits = omega (arith, gap .works, w .bounded t (s .so-far))
-
+  module _ {t before rests release k e clear : ℕ} {xs : List ℕ} (s : Underway a T h n t before rests release k xs) (gap : Gap a t e h clear) where
     -- No release of the row's own task is passed over.
     own-next : (m : ℕ) → t < m * T → e ≤ m * T
     own-next m l = go (decLe e (m * T))
@@ -131,31 +128,32 @@ module _ {a : ℕ → ℕ} {T h n : ℕ} (w : Walk a T h n) where
         go (yes q) = q
         go (no q) = absurd (omega (arith, s .release-is, gap .later, gap .within, w .ends, mul-le-mul-right {m = n} {n = k} T (omega arith)))
 
-    some-work : release ≤ t → 0 < work
+    pub some-work : release ≤ t → t < clear
     some-work l = go (ℕ-discrete release t)
       where
-        go : Dec (release ≡ t) → 0 < work
-        go (yes q) = omega (arith, w .own k, gap .works, ap a (sym (s .release-is) ∙ q))
-        go (no q) = omega (arith, gap .works, s .waits t (omega arith) (le-refl t))
+        go : Dec (release ≡ t) → t < clear
+        go (yes q) = omega (arith, w .own k, gap .clears, ap a (sym (s .release-is) ∙ q))
+        go (no q) = omega (arith, gap .clears, s .waits t (omega arith) (le-refl t))
 
-    wait-on : e - t < work → (z : ℕ) → release < z → z ≤ e → 0 < drain a z
+    -- What is left in the gap.
+    left-at : (m : ℕ) → t < m → m ≤ e → drain a m ≡ clear - m
+    left-at m l q = omega (arith, gap .clears, stretch a t e (gap .quiet) m l q)
+
+    wait-on : e < clear → (z : ℕ) → release < z → z ≤ e → 0 < drain a z
     wait-on g z l m = go (decLe z t)
       where
         go : Dec (z ≤ t) → 0 < drain a z
         go (yes q) = s .waits z l q
-        go (no q) = omega (arith, gap .works, stretch a t e (gap .quiet) z (omega arith) m)
+        go (no q) = omega (arith, left-at z (omega arith) m)
 
-    rested : restsTo a e ≡ rests + ((e - t) - work)
-    rested = rests-stretch a t e (gap .quiet) e (omega arith) (le-refl e) ∙ ap₂ (λ x y. x + ((e - t) - y)) (sym (s .rests-are)) (sym (gap .works))
-
-    drained : drain a e ≡ work - (e - t)
-    drained = stretch a t e (gap .quiet) e (gap .later) (le-refl e) ∙ ap (λ x. x - (e - t)) (sym (gap .works))
+    rested : restsTo a e ≡ rests + (e - clear)
+    rested = omega (arith, rests-stretch a t e (gap .quiet) e (omega (arith, gap .later)) (le-refl e), s .rests-are, gap .clears)
 
     -- The work goes on to the next release, and no job of the row falls due there.
-    pub waited : e - t < work → e < release + T → Underway a T h n e (work - (e - t)) rests release k xs
+    pub waited : e < clear → e < release + T → Underway a T h n e clear rests release k xs
     waited g d = record {
       so-far = gap .within;
-      left-is = sym drained;
+      clear-is = omega (arith, left-at e (gap .later) (le-refl e));
       rests-are = omega (arith, rested);
       release-is = s .release-is;
       due = d;
@@ -166,7 +164,7 @@ module _ {a : ℕ → ℕ} {T h n : ℕ} (w : Walk a T h n) where
     }
 
     -- Or one does: the job is not done.
-    pub blocked : e - t < work → release + T ≤ e → (k : ℕ) × (k < length xs) × Blocked a T k
+    pub blocked : e < clear → release + T ≤ e → (k : ℕ) × (k < length xs) × Blocked a T k
     blocked g d = (k, omega (arith, s .whole, released-few (go (decLe release t))), λ z l m. wait-on g z (omega (arith, s .release-is)) (omega (arith, s .release-is)))
       where
         go : Dec (release ≤ t) → release ≤ t
@@ -174,10 +172,10 @@ module _ {a : ℕ → ℕ} {T h n : ℕ} (w : Walk a T h n) where
         go (no q) = absurd (omega (arith, own-next k (omega (arith, s .release-is)), s .release-is, w .period-positive))
 
     -- The work ends, and the row's next job is not released yet.
-    pub rested-on : work ≤ e - t → t < release → Underway a T h n e 0 (rests + ((e - t) - work)) release k xs
+    pub rested-on : clear ≤ e → t < release → Underway a T h n e e (rests + (e - clear)) release k xs
     rested-on g l = record {
       so-far = gap .within;
-      left-is = omega (arith, drained);
+      clear-is = omega (arith, left-at e (gap .later) (le-refl e));
       rests-are = sym rested;
       release-is = s .release-is;
       due = omega (arith, own-next k (omega (arith, s .release-is)), s .release-is, w .period-positive);
@@ -188,42 +186,42 @@ module _ {a : ℕ → ℕ} {T h n : ℕ} (w : Walk a T h n) where
     }
 
     -- The work ends, and with it job k.
-    module _ (g : work ≤ e - t) (l : release ≤ t) where
+    module _ (g : clear ≤ e) (l : release ≤ t) where
       next-release : e ≤ release + T
       next-release = omega (arith, own-next (suc k) (omega (arith, s .due, s .release-is)), s .release-is)
 
       pub place-fits : k < length xs
       place-fits = omega (arith, s .whole, released-few l)
 
-      clears : FirstZero (drain a) (k * T) (t + work)
+      clears : FirstZero (drain a) (k * T) clear
       clears = record {
         after = omega (arith, s .release-is, some-work l);
-        is-zero = omega (arith, gap .works, stretch a t e (gap .quiet) (t + work) (omega (arith, some-work l)) (omega arith));
-        first = λ z m q. go z m q (decLe z t) (decLe (t + work) z);
+        is-zero = omega (arith, left-at clear (some-work l) g);
+        first = λ z m q. go z m q (decLe z t) (decLe clear z);
       }
         where
-          go : (z : ℕ) → k * T < z → drain a z ≡ 0 → Dec (z ≤ t) → Dec (t + work ≤ z) → t + work ≤ z
+          go : (z : ℕ) → k * T < z → drain a z ≡ 0 → Dec (z ≤ t) → Dec (clear ≤ z) → clear ≤ z
           go z m q (yes x) y = absurd (omega (arith, s .waits z (omega (arith, s .release-is)) x))
           go z m q (no x) (yes y) = y
-          go z m q (no x) (no y) = absurd (omega (arith, gap .works, stretch a t e (gap .quiet) z (omega arith) (omega arith)))
+          go z m q (no x) (no y) = absurd (omega (arith, left-at z (omega arith) (omega arith)))
 
-      done-then : Cleared a T k (t + work - release)
+      done-then : Cleared a T k (clear - release)
       done-then = record {
         soon = omega (arith, next-release);
-        clears = subst (FirstZero (drain a) (k * T)) (omega (arith, s .release-is)) clears;
+        clears = subst (FirstZero (drain a) (k * T)) (omega (arith, s .release-is, some-work l)) clears;
       }
 
-      pub job-done : Underway a T h n e 0 (rests + ((e - t) - work)) (release + T) (k + 1) (set xs k (t + work - release))
+      pub job-done : Underway a T h n e e (rests + (e - clear)) (release + T) (k + 1) (set xs k (clear - release))
       job-done = record {
         so-far = gap .within;
-        left-is = omega (arith, drained);
+        clear-is = omega (arith, left-at e (gap .later) (le-refl e));
         rests-are = sym rested;
         release-is = omega (arith, s .release-is);
         due = omega (arith, next-release, w .period-positive);
         waits = λ z m q. absurd (omega (arith, next-release));
         few = omega (arith, released-few l);
         whole = length-set xs k _ ∙ s .whole;
-        cleared = below-more (λ m. Cleared a T m (getD (set xs k (t + work - release)) m 0)) k
+        cleared = below-more (λ m. Cleared a T m (getD (set xs k (clear - release)) m 0)) k
             (λ m q. subst (Cleared a T m) (sym (getD-set-other xs k m _ 0 (λ z. omega arith))) (s .cleared m q))
             (subst (Cleared a T k) (sym (getD-set-same xs k _ 0 place-fits)) done-then);
       }

@@ -1,25 +1,27 @@
--- The tasks of a sheet that is taken: its sixteen places read as a list, their hyperperiod and jobs, and a level gathered from them.
+-- The tasks of a sheet that is taken: its sixteen places read as a list, their hyperperiod and jobs, and those that outrank one gathered from them.
 use mathlib.Core.Path.{_≡_, refl, sym, ap, ap₂, _∙_, subst}
 use mathlib.Core.List.{List}
 use mathlib.Core.Bool.{Bool, true, false, cond}
 use Prim.Native.Nat.{ℕ, suc, _+_, _-_, _*_, _/_, _≤_, _<_, _∣_}
-use native.Mathlib.Nat.{le-trans, le-of-dvd, div-le-self}
+use native.Mathlib.Nat.{le-refl, le-trans, le-of-dvd, div-le-self}
 use native.Mathlib.Numerals.{add-one}
 use native.Mathlib.Omega.{arith}
-use lib.Dec.{leb}
+use native.Mathlib.Decide.{ℕ-discrete, decLt}
+use lib.Dec.{leb, ltb, eqb}
 use lib.ListN.{length, getD, drop, set, length-take, length-drop, length-set, drop-of-length-le}
 use lib.Seq.{getD-take, getD-drop, drop-cons, getD-set-same, getD-set-other}
 use borrow.Author.Count.{below-more}
-use borrow.Author.Tests.{le-leb, lt-leb}
+use borrow.Author.Tests.{le-leb, lt-leb, lt-ltb, le-ltb, eq-eqb, ne-eqb}
 use Rattle.arith.specs.Whole.{lcm}
 use Rattle.theory.specs.declared.Task.{Task}
-use Rattle.theory.specs.Ranges.{sum, sum-eq, sum-le, sum-const, sum-grows}
+use Rattle.theory.specs.Ranges.{sum, sum-add, sum-eq, sum-le, sum-const, sum-point, sum-grows}
 use Rattle.theory.specs.Model.{none, period, budget, rank}
 use Rattle.theory.specs.Responses.{hyperperiod, jobs, allJobs}
 use Rattle.theory.specs.Hyperperiod.{hyperperiod-multiple, hyperperiod-least, hyperperiod-positive}
 use Rattle.theory.specs.Level.{level}
 use Rattle.sheet.specs.declared.Sheet.{Sheet}
 use Rattle.schedule.specs.Answer.{mostTicks, tasksOf}
+use Rattle.schedule.specs.Cases.{sound-proper}
 use Rattle.schedule.specs.Steps.{Taken, Period, Places, Level}
 
 -- A task whose T and C are allowed.
@@ -93,17 +95,41 @@ module _ {s : Sheet} (ok : Taken s) where
   pub jobs-within : (h i : ℕ) → Period s h → i < s .count → sum i (jobs (tasksOf s)) + h / getD (s .tasks) i none .period ≤ allJobs (tasksOf s)
   jobs-within h i p l = omega (arith, jobs-next h i p l, all-jobs, sum-grows (jobs (tasksOf s)) (i + 1) (s .count) (omega arith))
 
--- The level of task i, gathered from the first n tasks.
+-- Those that outrank task i, gathered from the first n tasks.
 pub record GatheredTo (s : Sheet) (i : ℕ) (periods budgets : List ℕ) (size n : ℕ) : Type 0 where
   pub places : Places periods budgets size
   pub within : size ≤ n
   pub so-far : n ≤ s .count
   pub sums : (f : ℕ → ℕ → ℕ) → sum size (λ p. f (getD periods p 0) (getD budgets p 0))
-      ≡ sum n (λ j. cond (leb (rank (tasksOf s) i) (rank (tasksOf s) j)) (f (period (tasksOf s) j) (budget (tasksOf s) j)) 0)
+      ≡ sum n (λ j. cond (ltb (rank (tasksOf s) i) (rank (tasksOf s) j)) (f (period (tasksOf s) j) (budget (tasksOf s) j)) 0)
 
 module _ {s : Sheet} (ok : Taken s) (i : ℕ) (known : i < s .count) where
   abbrev ts : List Task
   ts = tasksOf s
+
+  -- The level of task i is the task itself and those that outrank it.
+  pub level-own : (f : ℕ → ℕ) → level ts i f ≡ f i + sum (length ts) (λ j. cond (ltb (rank ts i) (rank ts j)) (f j) 0)
+  unfolding level
+  level-own f =
+      sum-eq (length ts) _ _ (λ j l. split j l (ℕ-discrete j i) (decLt (rank ts i) (rank ts j)))
+      ∙ sum-add (length ts) (λ j. cond (eqb j i) (f j) 0) _
+      ∙ ap (λ x. x + sum (length ts) (λ j. cond (ltb (rank ts i) (rank ts j)) (f j) 0)) own
+    where
+      listed : i < length ts
+      listed = omega (arith, tasks-length ok)
+
+      split : (j : ℕ) → j < length ts → Dec (j ≡ i) → Dec (rank ts i < rank ts j)
+          → cond (leb (rank ts i) (rank ts j)) (f j) 0 ≡ cond (eqb j i) (f j) 0 + cond (ltb (rank ts i) (rank ts j)) (f j) 0
+      split j l (yes e) r = rw (e, le-leb (rank ts i) (rank ts i) (le-refl _), eq-eqb i i refl, le-ltb (rank ts i) (rank ts i) (le-refl _)) (omega arith)
+      split j l (no n) (yes r) = rw (le-leb (rank ts i) (rank ts j) (omega arith), ne-eqb j i n, lt-ltb (rank ts i) (rank ts j) r) (omega arith)
+      split j l (no n) (no r) = rw (lt-leb (rank ts i) (rank ts j) (below (ℕ-discrete (rank ts j) (rank ts i))), ne-eqb j i n, le-ltb (rank ts i) (rank ts j) (omega arith))
+        where
+          below : Dec (rank ts j ≡ rank ts i) → rank ts j < rank ts i
+          below (yes e) = absurd (n (sound-proper (ok .sound) .ranks-differ j i l listed e))
+          below (no e) = omega arith
+
+      own : sum (length ts) (λ j. cond (eqb j i) (f j) 0) ≡ f i
+      own = sum-point (length ts) i _ listed (λ j m n. rw (ne-eqb j i n)) ∙ rw (eq-eqb i i refl)
 
   pub gather-start : (periods budgets : List ℕ) → length periods ≡ 16 → length budgets ≡ 16 → GatheredTo s i periods budgets 0 0
   unfolding sum
@@ -114,7 +140,6 @@ module _ {s : Sheet} (ok : Taken s) (i : ℕ) (known : i < s .count) where
       budgets-whole = b;
       period-positive = λ p l. absurd (omega arith);
       period-most = λ p l. absurd (omega arith);
-      budget-most = λ p l. absurd (omega arith);
     };
     within = omega arith;
     so-far = omega arith;
@@ -122,21 +147,23 @@ module _ {s : Sheet} (ok : Taken s) (i : ℕ) (known : i < s .count) where
   }
 
   pub gather-level : {periods budgets : List ℕ} {size : ℕ} → GatheredTo s i periods budgets size (s .count) → Level ts i periods budgets size
-  unfolding level
-  gather-level {periods} {budgets} {size} g = record { places = g .places; sums = λ f. rw (tasks-length ok) (g .sums f) }
+  gather-level {periods} {budgets} {size} g = record {
+    places = g .places;
+    sums = λ f. rw (level-own (λ j. f (period ts j) (budget ts j)), tasks-length ok) (ap (λ x. f (period ts i) (budget ts i) + x) (g .sums f));
+  }
 
   module _ {periods budgets : List ℕ} {size j : ℕ} (g : GatheredTo s i periods budgets size j) (l : j < s .count) where
     abbrev t : Task
     t = getD (s .tasks) j none
 
-    same : (f : ℕ → ℕ → ℕ) (b : Bool) → leb (getD (s .tasks) i none .rank) (t .rank) ≡ b
-        → cond (leb (rank ts i) (rank ts j)) (f (period ts j) (budget ts j)) 0 ≡ cond b (f (t .period) (t .budget)) 0
+    same : (f : ℕ → ℕ → ℕ) (b : Bool) → ltb (getD (s .tasks) i none .rank) (t .rank) ≡ b
+        → cond (ltb (rank ts i) (rank ts j)) (f (period ts j) (budget ts j)) 0 ≡ cond b (f (t .period) (t .budget)) 0
     same f b e =
-        ap₂ (λ x y. cond (leb (x .rank) (y .rank)) (f (y .period) (y .budget)) 0) (task-at ok i known) (task-at ok j l)
+        ap₂ (λ x y. cond (ltb (x .rank) (y .rank)) (f (y .period) (y .budget)) 0) (task-at ok i known) (task-at ok j l)
         ∙ ap (λ x. cond x (f (t .period) (t .budget)) 0) e
 
-    -- Task j outranks task i, or is it: it takes the next place.
-    pub gather-in : getD (s .tasks) i none .rank ≤ t .rank → GatheredTo s i (set periods size (t .period)) (set budgets size (t .budget)) (size + 1) (j + 1)
+    -- Task j outranks task i: it takes the next place.
+    pub gather-in : getD (s .tasks) i none .rank < t .rank → GatheredTo s i (set periods size (t .period)) (set budgets size (t .budget)) (size + 1) (j + 1)
     unfolding sum
     gather-in r = record {
       places = record {
@@ -147,14 +174,12 @@ module _ {s : Sheet} (ok : Taken s) (i : ℕ) (known : i < s .count) where
             (λ p m. rw (others periods (t .period) p m) (g .places .period-positive p m)) (rw here-period (place-fine ok j l .period-positive));
         period-most = below-more (λ p. getD (set periods size (t .period)) p 0 ≤ 100000) size
             (λ p m. rw (others periods (t .period) p m) (g .places .period-most p m)) (rw here-period (place-fine ok j l .period-most));
-        budget-most = below-more (λ p. getD (set budgets size (t .budget)) p 0 ≤ 100000) size
-            (λ p m. rw (others budgets (t .budget) p m) (g .places .budget-most p m)) (rw here-budget (omega (arith, place-fine ok j l)));
       };
       within = omega (arith, g .within);
       so-far = omega arith;
       sums = λ f. rw (add-one size, add-one j) (ap₂ _+_
           (sum-eq size _ _ (λ p m. ap₂ f (others periods (t .period) p m) (others budgets (t .budget) p m)) ∙ g .sums f)
-          (ap₂ f here-period here-budget ∙ sym (same f true (le-leb _ _ r))));
+          (ap₂ f here-period here-budget ∙ sym (same f true (lt-ltb _ _ r))));
     }
       where
         others : (xs : List ℕ) (v p : ℕ) → p < size → getD (set xs size v) p 0 ≡ getD xs p 0
@@ -167,11 +192,11 @@ module _ {s : Sheet} (ok : Taken s) (i : ℕ) (known : i < s .count) where
         here-budget = getD-set-same budgets size _ 0 (omega (arith, g .places .budgets-whole, g .within, ok .sound .count-most))
 
     -- It does not: the places stay.
-    pub gather-out : t .rank < getD (s .tasks) i none .rank → GatheredTo s i periods budgets size (j + 1)
+    pub gather-out : t .rank ≤ getD (s .tasks) i none .rank → GatheredTo s i periods budgets size (j + 1)
     unfolding sum
     gather-out r = record {
       places = g .places;
       within = omega (arith, g .within);
       so-far = omega arith;
-      sums = λ f. rw (add-one j) (omega (arith, g .sums f, same f false (lt-leb _ _ r)));
+      sums = λ f. rw (add-one j) (omega (arith, g .sums f, same f false (le-ltb _ _ r)));
     }

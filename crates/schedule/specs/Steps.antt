@@ -58,38 +58,48 @@ pub record Places (periods budgets : List ℕ) (size : ℕ) : Type 0 where
   pub budgets-whole : length budgets ≡ 16
   pub period-positive : (p : ℕ) → p < size → 0 < getD periods p 0
   pub period-most : (p : ℕ) → p < size → getD periods p 0 ≤ 100000
-  pub budget-most : (p : ℕ) → p < size → getD budgets p 0 ≤ 100000
 
 -- What they bring at tick t.
-unfoldable pub coming : List ℕ → List ℕ → ℕ → ℕ → ℕ
-coming periods budgets size t = sum size (λ p. brings t (getD periods p 0) (getD budgets p 0))
+unfoldable pub placed : List ℕ → List ℕ → ℕ → ℕ → ℕ
+placed periods budgets size t = sum size (λ p. brings t (getD periods p 0) (getD budgets p 0))
 
--- The places hold the level of task i, in any order: a sum over them is the sum over the level.
+-- What a level brings at tick t: its own task, whose row is walked, and those in the places.
+unfoldable pub coming : Task → List ℕ → List ℕ → ℕ → ℕ → ℕ
+unfolding placed
+coming own periods budgets size t = brings t (own .period) (own .budget) + placed periods budgets size t
+
+-- The places hold the tasks that outrank task i, in any order: a sum over these and task i is the sum over the level.
 pub record Level (ts : List Task) (i : ℕ) (periods budgets : List ℕ) (size : ℕ) : Type 0 where
   pub places : Places periods budgets size
-  pub sums : (f : ℕ → ℕ → ℕ) → sum size (λ p. f (getD periods p 0) (getD budgets p 0)) ≡ level ts i (λ j. f (period ts j) (budget ts j))
+  pub sums : (f : ℕ → ℕ → ℕ)
+      → f (period ts i) (budget ts i) + sum size (λ p. f (getD periods p 0) (getD budgets p 0)) ≡ level ts i (λ j. f (period ts j) (budget ts j))
 
--- Each place's first release at or after tick t.
-abbrev pub NextAt : List ℕ → List ℕ → ℕ → ℕ → Type 0
-NextAt periods next size t = (p : ℕ) → p < size → getD next p 0 ≡ up (getD periods p 0) t
+-- The first releases at or after tick t: the own task's at `due`, and each place's.
+pub record NextAt (own : Task) (periods next : List ℕ) (size t due : ℕ) : Type 0 where
+  pub whole : length next ≡ 16
+  pub own-at : due ≡ up (own .period) t
+  pub place-at : (p : ℕ) → p < size → getD next p 0 ≡ up (getD periods p 0) t
 
--- The places before the releases of tick t, which is before h, with so much left to do.
-pub record Ready (periods budgets next : List ℕ) (size t h left : ℕ) : Type 0 where
+-- All work that a walk meets is done by this tick: it ends by tick 1,000,000, and sixteen tasks have at most 1,100,000 due each.
+abbrev pub mostClear : ℕ
+mostClear = 20000000
+
+-- The level before the releases of tick t, with work that is done by tick `clear`.
+pub record Ready (own : Task) (periods budgets next : List ℕ) (size t due clear : ℕ) : Type 0 where
   pub places : Places periods budgets size
-  pub next-whole : length next ≡ 16
-  pub next-at : NextAt periods next size t
-  pub left-most : left ≤ 20000000
-  pub early : t < h
-  pub short : h ≤ mostTicks
+  pub own-positive : 0 < own .period
+  pub own-most : own .period ≤ 100000
+  pub next-at : NextAt own periods next size t due
+  pub fits : clear + coming own periods budgets size t ≤ mostClear
+  pub short : t ≤ mostTicks
 
--- And after them: what is left with the work they bring, and the next tick with releases, or h.
-pub record Turned (periods budgets next : List ℕ) (size t h left : ℕ) (turn : Turn) : Type 0 where
-  pub next-whole : length next ≡ 16
-  pub next-after : NextAt periods next size (suc t)
-  pub work-all : turn .work ≡ left + coming periods budgets size t
-  pub later : t < turn .next
-  pub within : turn .next ≤ h
-  pub before-next : (p : ℕ) → p < size → turn .next ≤ getD next p 0
+-- And after them: by when the work is done with what they bring, and the next tick with releases.
+pub record Turned (own : Task) (periods budgets next : List ℕ) (size t clear : ℕ) (turn : Turn) : Type 0 where
+  pub next-after : NextAt own periods next size (suc t) (turn .due)
+  pub clear-is : turn .clear ≡ clear + coming own periods budgets size t
+  pub later : t < turn .soon
+  pub before-own : turn .soon ≤ turn .due
+  pub before-places : (p : ℕ) → p < size → turn .soon ≤ getD next p 0
 
 -- ---- a row, for a x of work that comes in at tick x and jobs released at the multiples of T
 
@@ -113,7 +123,7 @@ pub record Walk (a : ℕ → ℕ) (T h n : ℕ) : Type 0 where
   pub ends : n * T ≡ h
   pub short : h ≤ mostTicks
   pub own : (k : ℕ) → 0 < a (k * T)
-  pub bounded : (t : ℕ) → t ≤ h → drain a t + a t ≤ 20000000
+  pub bounded : (t : ℕ) → t ≤ h → t + drain a t + a t ≤ mostClear
 
 abbrev pub Walked : (ℕ → ℕ) → ℕ → ℕ → List ℕ → Row → Type 0
 Walked a T h xs (Rests rests) = ((k : ℕ) → k < length xs → Cleared a T k (getD xs k 0)) × (rests ≡ restsTo a h)

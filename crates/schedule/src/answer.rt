@@ -30,10 +30,11 @@ pub enum Sizes {
     No(Refusal),
 }
 
-// The work of a level at a tick, and the level's next release.
+// The tick by which the work of a level is done, the next release of its own task, and the earliest of all its next releases.
 pub struct Turn {
-    pub work: u32,
-    pub next: u32,
+    pub clear: u32,
+    pub due: u32,
+    pub soon: u32,
 }
 
 // What a row tells: the ticks in which its level rests, or that its task is late.

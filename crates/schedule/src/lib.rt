@@ -1,6 +1,7 @@
 // The job table: the response of every job in the full-budget schedule, row by row, with hyperperiod, job count and idle ticks;
 // or the first refusal. One task's row comes from a walk over the releases of its level, which is the task and those that outrank
-// it, with one number of state: the level's backlog. What is answered and left in the table is defined in specs/Answer.antt.
+// it, with one number of state: the tick by which the level's work is done. What is answered and left in the table is defined in
+// specs/Answer.antt.
 mod answer;
 
 use answer::Found;
@@ -15,6 +16,7 @@ use arith::Multiple;
 use sheet::Refusal;
 use sheet::Sheet;
 use sheet::Verdict;
+use theory::Task;
 ghost use mathlib.Core.Path.{_≡_};
 ghost use mathlib.Core.List.{_++_};
 ghost use Prim.Native.Nat.{suc, _≤_, _<_};
@@ -97,7 +99,7 @@ pub fn sizes(s: Sheet) -> Sizes
     })
 }
 
-// The periods and budgets of task i's level, and how many they are.
+// The periods and budgets of the tasks that outrank task i, and how many they are.
 fn gather(s: Sheet, i: usize, periods: &mut [u32; 16], budgets: &mut [u32; 16]) -> usize
     requires { ⌜ Taken s ⌝ ∗ ⌜ (i < s .count) × (length (now periods) ≡ 16) × (length (now budgets) ≡ 16) ⌝ }
     ensures { λ r. ⌜ Level (tasksOf s) i (now (periods .exit)) (now (budgets .exit)) r ⌝ }
@@ -108,7 +110,7 @@ fn gather(s: Sheet, i: usize, periods: &mut [u32; 16], budgets: &mut [u32; 16]) 
     let mut j = 0usize;
     while j < n {
         let t = s.tasks[j];
-        if own <= t.rank {
+        if own < t.rank {
             periods[size] = t.period;
             budgets[size] = t.budget;
             size += 1;
@@ -118,76 +120,84 @@ fn gather(s: Sheet, i: usize, periods: &mut [u32; 16], budgets: &mut [u32; 16]) 
     size
 }
 
-// The releases of a level at a tick: its backlog with what they bring, and the next release after the tick, or `h` where that
-// is earlier.
+// The releases of a level at a tick: by when its work is done with what they bring, the own task's next release, and the earliest
+// of all. A place whose next release is not before the earliest so far is passed over: that is after the tick, so it has none now.
 fn turn(
     next: &mut [u32; 16],
     periods: &[u32; 16],
     budgets: &[u32; 16],
     size: usize,
+    own: Task,
     at: u32,
-    h: u32,
-    backlog: u32,
+    mut due: u32,
+    mut clear: u32,
 ) -> Turn
-    requires { ⌜ Ready (now periods) (now budgets) (now next) size at h backlog ⌝ }
-    ensures { λ r. ⌜ Turned (now (periods .entry)) (now (budgets .entry)) (now (next .exit)) size at h backlog r ⌝ }
+    requires { ⌜ Ready own (now periods) (now budgets) (now next) size at due clear ⌝ }
+    ensures { λ r. ⌜ Turned own (now (periods .entry)) (now (budgets .entry)) (now (next .exit)) size at clear r ⌝ }
 {
-    let mut work = backlog;
-    let mut soon = h;
+    if due == at {
+        clear += own.budget;
+        due = at + own.period;
+    }
+    let mut soon = due;
     let mut p = 0usize;
     while p < size {
-        let mut x = next[p];
-        if x == at {
-            work += budgets[p];
-            x = at + periods[p];
-            next[p] = x;
-        }
-        if x < soon {
-            soon = x;
+        let release = next[p];
+        if release < soon {
+            if release == at {
+                clear += budgets[p];
+                let after = at + periods[p];
+                next[p] = after;
+                if after < soon {
+                    soon = after;
+                }
+            } else {
+                soon = release;
+            }
         }
         p += 1;
     }
-    Turn { work, next: soon }
+    Turn { clear, due, soon }
 }
 
-// Fills the row of a task with the responses of its jobs, by a walk over the releases of its level up to `h`: over each gap
-// between two of them the backlog falls by the gap or to 0, and a job of the task is done where it reaches 0.
+// Fills the row of a task with the responses of its jobs, by a walk over the releases of its level up to `h`: the level's work is
+// done by tick `clear`, and where that is before the next release a job of the task is done with it, and the gap ends at rest.
 fn walk(
     periods: &[u32; 16],
     budgets: &[u32; 16],
     size: usize,
-    period: u32,
+    own: Task,
     h: u32,
     row: &mut [u32],
 ) -> Row
-    requires { ⌜ Places (now periods) (now budgets) size ⌝ ∗ ⌜ Walk (coming (now periods) (now budgets) size) period h (length (now row)) ⌝ }
-    ensures { λ r. ⌜ Walked (coming (now (periods .entry)) (now (budgets .entry)) size) period h (now (row .exit)) r ⌝ }
+    requires { ⌜ Places (now periods) (now budgets) size ⌝ ∗ ⌜ Walk (coming own (now periods) (now budgets) size) (own .period) h (length (now row)) ⌝ }
+    ensures { λ r. ⌜ Walked (coming own (now (periods .entry)) (now (budgets .entry)) size) (own .period) h (now (row .exit)) r ⌝ }
 {
     let mut next = [0u32; 16];
     let mut at = 0u32;
-    let mut backlog = 0u32;
+    let mut due = 0u32;
+    let mut clear = 0u32;
     let mut rests = 0u32;
     let mut release = 0u32;
     let mut k = 0usize;
     while at < h {
-        let now = turn(&mut next, periods, budgets, size, at, h, backlog);
-        let work = now.work;
-        let gap = now.next - at;
-        if gap < work {
-            if release + period <= now.next {
+        let now = turn(&mut next, periods, budgets, size, own, at, due, clear);
+        due = now.due;
+        clear = now.clear;
+        if now.soon < clear {
+            if release + own.period <= now.soon {
                 return Row::Late;
             }
-            backlog = work - gap;
         } else {
             if release <= at {
-                row[k] = at + work - release;
+                row[k] = clear - release;
                 k += 1;
-                release += period;
+                release += own.period;
             }
-            backlog = 0;
-            rests += gap - work;
+            rests += now.soon - clear;
+            clear = now.soon;
         }
-        at = now.next;
+        at = now.soon;
     }
     Row::Rests(rests)
 }
@@ -200,7 +210,7 @@ fn fill_row(s: Sheet, i: usize, h: u32, row: &mut [u32]) -> Row
     let mut periods = [0u32; 16];
     let mut budgets = [0u32; 16];
     let size = gather(s, i, &mut periods, &mut budgets);
-    walk(&periods, &budgets, size, s.tasks[i].period, h, &mut *row)
+    walk(&periods, &budgets, size, s.tasks[i], h, &mut *row)
 }
 
 // What the rows tell up to that of task i, from what those before it and its own tell.

@@ -17,19 +17,19 @@ element-copy-out-walk c = search needs
 
 walk-requires : tie.Need-walk-requires
 walk-requires c κs =
-    let a = c .before .before .before .before .before .before .before in
-    let g = c .before .before .before .gather .ensures in
-    (g .places, rw (coming-load g, ← task-at (a .pre .0) (a .args .i) (a .pre .1 .1 .0), a .pre .1 .1 .1) (walkable (a .pre .0) (a .args .i) (a .pre .1 .1 .0) (a .pre .1 .0)))
+    let a = c .before .before .before .before .before .before .before .before in
+    let g = c .before .before .before .before .gather .ensures in
+    (g .places, rw (← task-at (a .pre .0) (a .args .i) (a .pre .1 .1 .0), coming-load g, a .pre .1 .1 .1) (walkable (a .pre .0) (a .args .i) (a .pre .1 .1 .0) (a .pre .1 .0)))
 
 same-length : tie.Need-same-length
 same-length c = search needs
 
 returns : tie.Need-returns
 returns c =
-    let a = c .before .before .before .before .before .before .before .before .before .before in
-    let g = c .before .before .before .before .before .before .gather .ensures in
+    let a = c .before .before .before .before .before .before .before .before .before .before .before in
+    let g = c .before .before .before .before .before .before .before .gather .ensures in
     let w = c .before .before .walk in
-    row-filled (a .pre .0) (a .args .i) (a .pre .1 .1 .0) (a .pre .1 .0) (w .last .1 .1 .1 .1 .1 .0) (w .result) (w .kept .1 .1 .1 .1 .1 .0 ∙ a .pre .1 .1 .1) (rw (coming-load g, ← task-at (a .pre .0) (a .args .i) (a .pre .1 .1 .0)) at (w .ensures))
+    row-filled (a .pre .0) (a .args .i) (a .pre .1 .1 .0) (a .pre .1 .0) (w .last .1 .1 .1 .1 .1 .0) (w .result) (w .kept .1 .1 .1 .1 .1 .0 ∙ a .pre .1 .1 .1) (rw (← task-at (a .pre .0) (a .args .i) (a .pre .1 .1 .0), coming-load g) at (w .ensures))
 
 pub fill-row-spec : {M : Type 1} → statement M
 fill-row-spec =

@@ -1,4 +1,4 @@
--- Each task of at least the rank of task i takes the next place, so any sum over the places is that over the level.
+-- Each task that outranks task i takes the next place, so any sum over the places and task i is that over the level.
 use mathlib.Core.Path.{_≡_, subst}
 use mathlib.Core.Logic.{⊎-elim}
 use native.Mathlib.Omega.{arith}

@@ -1,64 +1,73 @@
--- Place by place: a release that is now brings its budget and is moved on by its period, and the earliest of the next ones is kept.
-use lib.ListN.{set}
-use Rattle.schedule.specs.Steps.{coming}
+-- Task by task: a release that is now brings its budget and is moved on by its period, and the earliest of the next ones is kept.
+use mathlib.Core.Path.{_≡_, refl, ap}
 use mathlib.Core.Logic.{⊎-elim}
+use native.Mathlib.Nat.{le-refl}
 use native.Mathlib.Omega.{arith}
-use mathlib.Core.Path.{_≡_, sym, ap, _∙_}
-use Prim.Native.Nat.{_+_, _-_, _≤_, _<_}
-use Rattle.schedule.proofs.Releases.{TurnedTo, turn-start, coming-most, turned-now, turned-later}
+use Prim.Native.Nat.{suc, _-_, _<_}
+use Rattle.arith.specs.WholeLaws.{up-above}
+use Rattle.schedule.specs.Steps.{brings, placed, coming}
+use Rattle.schedule.proofs.Releases.{Moved, moved-now, moved-later, TurnedTo, turn-start, placed-fits, turned-now, turned-later}
 use borrow.Author.Needs.{needs}
 use Rattle.schedule.proofs.turn.Statement.{statement}
 use Rattle.schedule.proofs.turn.Tie as tie
 
 abbrev Inv-loop : tie.InvT-loop
-Inv-loop next₀ periods budgets size at h backlog work₀ soon₀ p₀ next work soon p =
-    TurnedTo periods budgets next size at h backlog work soon p
+Inv-loop next₀ periods budgets size at due clear₀ soon₀ p₀ next clear soon p =
+    TurnedTo periods budgets next size at due clear₀ clear soon p
 
 abbrev μ-loop : tie.MeasureT-loop
-μ-loop next₀ periods budgets size at h backlog work₀ soon₀ p₀ next work soon p = size - p
+μ-loop next₀ periods budgets size at due clear₀ soon₀ p₀ next clear soon p = size - p
 
--- The earliest next release, with that of this place.
-soonest : (c : tie.Joined2 Inv-loop μ-loop) → (c .if2 .soon ≤ c .before .before .before .before .loop .soon) × (c .if2 .soon ≤ c .before .if1 .x)
-    × (c .before .before .before .before .before .args .at < c .before .if1 .x → c .before .before .before .before .before .args .at < c .if2 .soon)
-soonest c =
-    let l = c .before .before .before .before .loop in
+-- The own task, after its release if that is now.
+own-moved : (c : tie.Joined1 Inv-loop μ-loop) → let x = c .before .args in Moved (x .own .period) (x .own .budget) (x .at) (x .clear) (c .if1 .due) (c .if1 .clear)
+own-moved c =
+    let r = c .before .pre in
     ⊎-elim
-    (λ w. (omega (arith, w .1, w .0 .taken), omega (arith, w .1), λ h. omega (arith, w .1)))
-    (λ w. (omega (arith, w .1), omega (arith, w .1, w .0 .left), λ h. omega (arith, w .1, l .inv .later)))
-    (c .if2 .came)
+    (λ w. moved-now (r .own-positive) (r .next-at .own-at) (w .0 .taken) (w .3) (w .4))
+    (λ w. moved-later (r .own-positive) (r .next-at .own-at) (w .0 .left) (w .1) (w .2))
+    (c .if1 .came)
+
+add-clear : tie.Need-add-clear Inv-loop μ-loop
+unfolding coming
+add-clear c =
+    let a = c .before .before in
+    omega (arith, a .pre .fits, moved-now (a .pre .own-positive) (a .pre .next-at .own-at) {C = a .args .own .budget} {before = a .args .clear} (c .before .if1 .taken) refl refl .brought)
+
+add-due : tie.Need-add-due Inv-loop μ-loop
+add-due c = omega (arith, c .before .before .before .pre)
 
 loop-holds : tie.Need-loop-holds Inv-loop μ-loop
-loop-holds c = turn-start (c .pre)
+loop-holds c = turn-start (c .before .pre .next-at) (omega (arith, own-moved c, up-above (c .before .args .own .period) (suc (c .before .args .at)) (c .before .pre .own-positive)))
 
-mul-x : tie.Need-mul-x Inv-loop μ-loop
-mul-x c = search needs
+mul-release : tie.Need-mul-release Inv-loop μ-loop
+mul-release c = search needs
 
-element-copy-out-x : tie.Need-element-copy-out-x Inv-loop μ-loop
-element-copy-out-x c = search needs
+element-copy-out-release : tie.Need-element-copy-out-release Inv-loop μ-loop
+element-copy-out-release c = search needs
 
-mul-work : tie.Need-mul-work Inv-loop μ-loop
-mul-work c = search needs
+mul-clear : tie.Need-mul-clear Inv-loop μ-loop
+mul-clear c = search needs
 
-element-copy-out-work : tie.Need-element-copy-out-work Inv-loop μ-loop
-element-copy-out-work c = search needs
+element-copy-out-clear : tie.Need-element-copy-out-clear Inv-loop μ-loop
+element-copy-out-clear c = search needs
 
-add-work : tie.Need-add-work Inv-loop μ-loop
-add-work c =
-    let a = c .before .before .before .before .before in
-    let l = c .before .before .before .before .loop in
-    omega (arith, a .pre .places .budget-most (l .p) (omega arith), l .inv .work-is, coming-most (a .pre .places) (l .p) (a .args .at) (l .inv .few), a .pre .places .few, a .pre .left-most)
+add-clear-2 : tie.Need-add-clear-2 Inv-loop μ-loop
+unfolding coming
+add-clear-2 c =
+    let a = c .before .before .before .before .before .before .before .before in
+    let l = c .before .before .before .before .before .before .loop in
+    omega (arith, placed-fits (a .pre .places) (l .inv) (omega arith) (c .before .before .if3 .taken), a .pre .fits, own-moved (c .before .before .before .before .before .before .before))
 
-mul-x-2 : tie.Need-mul-x-2 Inv-loop μ-loop
-mul-x-2 c = search needs
+mul-after : tie.Need-mul-after Inv-loop μ-loop
+mul-after c = search needs
 
-element-copy-out-x-2 : tie.Need-element-copy-out-x-2 Inv-loop μ-loop
-element-copy-out-x-2 c = search needs
+element-copy-out-after : tie.Need-element-copy-out-after Inv-loop μ-loop
+element-copy-out-after c = search needs
 
-add-x : tie.Need-add-x Inv-loop μ-loop
-add-x c =
-    let a = c .before .before .before .before .before .before in
-    let l = c .before .before .before .before .before .loop in
-    omega (arith, a .pre .places .period-most (l .p) (omega arith), a .pre .early, a .pre .short)
+add-after : tie.Need-add-after Inv-loop μ-loop
+add-after c =
+    let a = c .before .before .before .before .before .before .before .before .before in
+    omega (arith, a .pre .places .period-most (c .before .before .before .before .before .before .before .loop .p) (omega arith), a .pre .short)
 
 mul-next : tie.Need-mul-next Inv-loop μ-loop
 mul-next c = search needs
@@ -75,26 +84,32 @@ loop-less c = search needs
 loop-again : tie.Need-loop-again Inv-loop μ-loop
 loop-again c =
     let a = c .before .before .before .before .before in
-    let l = c .before .before .before .before .loop in
+    let l = c .before .before .before .loop in
     let known : l .p < a .args .size = omega arith in
-    let y = soonest c in
+    let positive = a .pre .places .period-positive (l .p) known in
+    let first = l .inv .place-at (l .p) (le-refl (l .p)) known in
     ⊎-elim
-    (λ w. turned-now (a .pre .places) (l .inv) known (y .0) (y .1) (y .2) (w .0 .taken) (w .3 ∙ ap (set (l .next) (l .p)) (sym (w .5))) (w .4) (w .5))
-    (λ w. turned-later (a .pre .places) (l .inv) known (y .0) (y .1) (y .2) (w .0 .left) (w .1) (w .2) (w .3))
-    (c .before .if1 .came)
+    (λ w. turned-now (a .pre .places) (l .inv) known (moved-now positive first (w .1 .taken) refl (w .7)) (omega (arith, w .5, w .8)) (omega (arith, w .8)) (λ m. omega (arith, w .8)) (w .6))
+    (⊎-elim
+    (λ w. turned-now (a .pre .places) (l .inv) known (moved-now positive first (w .1 .taken) refl (w .7)) (omega (arith, w .8)) (omega (arith, w .5, w .8)) (λ m. omega (arith, w .8, l .inv .later)) (w .6))
+    (⊎-elim
+    (λ w. turned-later (a .pre .places) (l .inv) known (moved-later positive first (w .1 .left) refl (w .3)) (omega (arith, w .0, w .4)) (omega (arith, w .4)) (λ m. omega (arith, w .4)) (w .2) refl)
+    (λ w. turned-later (a .pre .places) (l .inv) known (moved-later positive first (λ z. omega (arith, w .0, l .inv .later)) refl (w .2)) (omega (arith, w .3)) (omega (arith, w .0, w .3)) (λ m. omega (arith, w .3, l .inv .later)) (w .1) refl)))
+    (c .if2 .came)
 
 returns : tie.Need-returns Inv-loop μ-loop
+unfolding coming
 returns c =
-    let a = c .before .before in
+    let a = c .before .before .before in
     let l = c .before .loop in
+    let own = own-moved (c .before .before) in
     let all : l .p ≡ a .args .size = omega (arith, l .inv .few) in
     record {
-      next-whole = l .inv .next-whole;
-      next-after = λ p m. l .inv .next-after p (omega arith);
-      work-all = l .inv .work-is ∙ ap (λ p. a .args .backlog + coming (a .args .periods .now) (a .args .budgets .now) p (a .args .at)) all;
+      next-after = record { whole = l .inv .whole; own-at = own .next; place-at = λ p m. l .inv .place-after p (omega arith) };
+      clear-is = omega (arith, l .inv .clear-is, own .brought, ap (λ p. placed (a .args .periods .now) (a .args .budgets .now) p (a .args .at)) all);
       later = l .inv .later;
-      within = l .inv .within;
-      before-next = λ p m. l .inv .before-next p (omega arith);
+      before-own = l .inv .before-due;
+      before-places = λ p m. l .inv .before-places p (omega arith);
     }
 
 pub turn-spec : {M : Type 1} → statement M
@@ -103,15 +118,17 @@ turn-spec =
     (tie.spec
     Inv-loop
     μ-loop
+    add-clear
+    add-due
     loop-holds
-    mul-x
-    element-copy-out-x
-    mul-work
-    element-copy-out-work
-    add-work
-    mul-x-2
-    element-copy-out-x-2
-    add-x
+    mul-release
+    element-copy-out-release
+    mul-clear
+    element-copy-out-clear
+    add-clear-2
+    mul-after
+    element-copy-out-after
+    add-after
     mul-next
     element-write-next
     add-p

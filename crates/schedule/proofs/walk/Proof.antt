@@ -1,62 +1,67 @@
--- From release to release of the level one unit of its backlog is done in each tick; a job of the row is done where that ends, and late where it does not by the next release.
-use mathlib.Core.Path.{_≡_, refl}
+-- From release to release of the level one unit of its work is done in each tick; a job of the row is done where that ends, and late where it does not by the next release.
+use mathlib.Core.Path.{refl}
 use mathlib.Core.Logic.{⊎-elim}
-use Prim.Native.Nat.{_-_, _≤_}
+use Prim.Native.Nat.{_-_}
 use native.Mathlib.Omega.{arith}
 use lib.ListN.{length}
 use Rattle.schedule.specs.Steps.{coming, NextAt}
-use Rattle.schedule.proofs.Draining.{rests-most, Underway, start, release-most, finished, work-fits, waited, blocked, rested-on, place-fits, job-done}
+use Rattle.schedule.proofs.Draining.{rests-most, Gap, Underway, start, release-most, finished, some-work, waited, blocked, rested-on, place-fits, job-done}
 use Rattle.schedule.proofs.Releases.{turned-gap, turned-next, next-start}
 use borrow.Author.Needs.{needs}
 use Rattle.schedule.proofs.walk.Statement.{statement}
 use Rattle.schedule.proofs.walk.Tie as tie
 
 abbrev Inv-loop : tie.InvT-loop
-Inv-loop periods budgets size period h row₀ next₀ at₀ backlog₀ rests₀ release₀ k₀ row next at backlog rests release k =
-    Underway (coming periods budgets size) period h (length row₀) at backlog rests release k row × (length next ≡ 16) × NextAt periods next size at
+Inv-loop periods budgets size own h row₀ next₀ at₀ due₀ clear₀ rests₀ release₀ k₀ row next at due clear rests release k =
+    Underway (coming own periods budgets size) (own .period) h (length row₀) at clear rests release k row × NextAt own periods next size at due
 
 abbrev μ-loop : tie.MeasureT-loop
-μ-loop periods budgets size period h row₀ next₀ at₀ backlog₀ rests₀ release₀ k₀ row next at backlog rests release k =
+μ-loop periods budgets size own h row₀ next₀ at₀ due₀ clear₀ rests₀ release₀ k₀ row next at due clear rests release k =
     h - at
 
+-- After the releases of a tick: the gap up to the next ones.
+gap : (c : tie.After-turn Inv-loop μ-loop) → let a = c .before .before .before .before .before .args in
+    Gap (coming (a .own) (a .periods .now) (a .budgets .now) (a .size)) (c .before .before .before .loop .at) (c .turn .result .soon) (a .h) (c .turn .result .clear)
+gap c =
+    let a = c .before .before .before .before .before in
+    turned-gap (a .pre .0) (a .pre .1 .period-positive) (c .turn .ensures) (length (a .args .row .now)) (omega arith) (a .pre .1 .ends) (c .before .before .before .loop .inv .0 .clear-is)
+
 loop-holds : tie.Need-loop-holds Inv-loop μ-loop
-loop-holds c = (start (c .before .pre .1) (c .before .args .row .now) refl, refl, next-start (c .before .pre .0))
+loop-holds c = (start (c .before .pre .1) (c .before .args .row .now) refl, next-start (c .before .pre .0) (c .before .pre .1 .period-positive))
 
 turn-requires : tie.Need-turn-requires Inv-loop μ-loop
 turn-requires c κs =
     let a = c .before .before .before .before in
     let l = c .before .before .loop in
-    record { places = a .pre .0; next-whole = l .inv .1; next-at = l .inv .2; left-most = omega (arith, l .inv .0 .left-is, a .pre .1 .bounded (l .at) (l .inv .0 .so-far)); early = omega arith; short = a .pre .1 .short }
-
-sub-gap : tie.Need-sub-gap Inv-loop μ-loop
-sub-gap c = search needs
+    record {
+      places = a .pre .0;
+      own-positive = a .pre .1 .period-positive;
+      own-most = a .pre .1 .period-most;
+      next-at = l .inv .1;
+      fits = omega (arith, l .inv .0 .clear-is, a .pre .1 .bounded (l .at) (l .inv .0 .so-far));
+      short = omega (arith, l .inv .0 .so-far, a .pre .1 .short);
+    }
 
 add-if2 : tie.Need-add-if2 Inv-loop μ-loop
 add-if2 c =
-    let a = c .before .before .before .before .before .before .before in
-    let l = c .before .before .before .before .before .loop in
+    let a = c .before .before .before .before .before .before .before .before in
+    let l = c .before .before .before .before .before .before .loop in
     omega (arith, release-most (a .pre .1) (l .inv .0), a .pre .1)
 
 same-length : tie.Need-same-length Inv-loop μ-loop
-same-length c = c .before .before .before .before .before .before .before .loop .inv .0 .whole
+same-length c = c .before .before .before .before .before .before .before .before .loop .inv .0 .whole
 
 returns : tie.Need-returns Inv-loop μ-loop
 returns c =
-    let a = c .before .before .before .before .before .before .before .before .before in
-    let l = c .before .before .before .before .before .before .before .loop in
-    blocked (a .pre .1) (l .inv .0) (turned-gap (a .pre .0) (c .before .before .before .before .turn .ensures) (l .inv .0 .left-is)) (c .before .before .if1 .taken) (c .if2 .taken)
-
-sub-backlog : tie.Need-sub-backlog Inv-loop μ-loop
-sub-backlog c = search needs
-
-add-row : tie.Need-add-row Inv-loop μ-loop
-add-row c =
-    let a = c .before .before .before .before .before .before .before .before in
-    let l = c .before .before .before .before .before .before .loop in
-    omega (arith, l .inv .0 .so-far, a .pre .1 .short, work-fits (a .pre .1) (l .inv .0) (turned-gap (a .pre .0) (c .before .before .before .turn .ensures) (l .inv .0 .left-is)))
+    let a = c .before .before .before .before .before .before .before .before .before .before in
+    let l = c .before .before .before .before .before .before .before .before .loop in
+    blocked (a .pre .1) (l .inv .0) (gap (c .before .before .before .before .before)) (c .before .before .before .if1 .taken) (c .if2 .taken)
 
 sub-row : tie.Need-sub-row Inv-loop μ-loop
-sub-row c = search needs
+sub-row c =
+    let a = c .before .before .before .before .before .before .before .before in
+    let l = c .before .before .before .before .before .before .loop in
+    omega (arith, some-work (a .pre .1) (l .inv .0) (gap (c .before .before .before)) (c .if3 .taken))
 
 mul-row : tie.Need-mul-row Inv-loop μ-loop
 mul-row c = search needs
@@ -65,7 +70,7 @@ slice-write-row : tie.Need-slice-write-row Inv-loop μ-loop
 slice-write-row c =
     let a = c .before .before .before .before .before .before .before .before in
     let l = c .before .before .before .before .before .before .loop in
-    place-fits (a .pre .1) (l .inv .0) (turned-gap (a .pre .0) (c .before .before .before .turn .ensures) (l .inv .0 .left-is)) (omega (arith, c .before .if1 .left)) (c .if3 .taken)
+    place-fits (a .pre .1) (l .inv .0) (gap (c .before .before .before)) (c .before .if1 .left) (c .if3 .taken)
 
 add-k : tie.Need-add-k Inv-loop μ-loop
 add-k c =
@@ -75,41 +80,37 @@ add-k c =
 
 add-release : tie.Need-add-release Inv-loop μ-loop
 add-release c =
-    let a = c .before .before .before .before .before .before .before .before in
-    let l = c .before .before .before .before .before .before .loop in
+    let a = c .before .before .before .before .before .before .before .before .before in
+    let l = c .before .before .before .before .before .before .before .loop in
     omega (arith, release-most (a .pre .1) (l .inv .0), a .pre .1)
 
 add-rests : tie.Need-add-rests Inv-loop μ-loop
 add-rests c =
-    let a = c .before .before .before .before .before .before .before .before in
-    let l = c .before .before .before .before .before .before .loop in
-    omega (arith, l .inv .0 .rests-are, rests-most (coming (a .args .periods .now) (a .args .budgets .now) (a .args .size)) (l .at), l .inv .0 .so-far, c .before .before .before .turn .ensures, a .pre .1 .short)
+    let a = c .before .before .before .before .before .before .before .before .before in
+    let l = c .before .before .before .before .before .before .before .loop in
+    omega (arith, l .inv .0 .rests-are, rests-most (coming (a .args .own) (a .args .periods .now) (a .args .budgets .now) (a .args .size)) (l .at), l .inv .0 .so-far, gap (c .before .before .before .before) .within, a .pre .1 .short)
 
 loop-less : tie.Need-loop-less Inv-loop μ-loop
-loop-less c = omega (arith, c .before .before .before .before .turn .ensures)
+loop-less c = omega (arith, gap (c .before .before .before .before .before) .later)
 
 loop-again : tie.Need-loop-again Inv-loop μ-loop
 loop-again c =
-    let a = c .before .before .before .before .before .before .before .before .before in
-    let l = c .before .before .before .before .before .before .before .loop in
-    let x = c .before .before .before .before .turn .ensures in
-    (waited (a .pre .1) (l .inv .0) (turned-gap (a .pre .0) x (l .inv .0 .left-is)) (c .before .before .if1 .taken) (omega (arith, c .if2 .left)), x .next-whole, turned-next (a .pre .0) x)
+    let a = c .before .before .before .before .before .before .before .before .before .before in
+    let l = c .before .before .before .before .before .before .before .before .loop in
+    (waited (a .pre .1) (l .inv .0) (gap (c .before .before .before .before .before)) (c .before .before .before .if1 .taken) (omega (arith, c .if2 .left)), turned-next (a .pre .0) (a .pre .1 .period-positive) (c .before .before .before .before .before .turn .ensures))
 
 loop-less-2 : tie.Need-loop-less-2 Inv-loop μ-loop
-loop-less-2 c = omega (arith, c .before .before .before .turn .ensures)
+loop-less-2 c = omega (arith, gap (c .before .before .before .before) .later)
 
 loop-again-2 : tie.Need-loop-again-2 Inv-loop μ-loop
 loop-again-2 c =
-    let a = c .before .before .before .before .before .before .before .before in
-    let l = c .before .before .before .before .before .before .loop in
-    let x = c .before .before .before .turn .ensures in
-    let ends : c .before .before .before .turn .result .work ≤ c .before .before .before .turn .result .next - l .at = c .before .if1 .left in (
+    let a = c .before .before .before .before .before .before .before .before .before in
+    let l = c .before .before .before .before .before .before .before .loop in (
       ⊎-elim
-          (λ w. rw (w .1, w .2, w .3) (job-done (a .pre .1) (l .inv .0) (turned-gap (a .pre .0) x (l .inv .0 .left-is)) ends (w .0 .taken)))
-          (λ w. rw (w .1, w .2, w .3) (rested-on (a .pre .1) (l .inv .0) (turned-gap (a .pre .0) x (l .inv .0 .left-is)) ends (w .0 .left)))
-          (c .if3 .came),
-      x .next-whole,
-      turned-next (a .pre .0) x,
+          (λ w. rw (w .2, w .3, w .4) (job-done (a .pre .1) (l .inv .0) (gap (c .before .before .before .before)) (c .before .before .if1 .left) (w .0 .taken)))
+          (λ w. rw (w .1, w .2, w .3) (rested-on (a .pre .1) (l .inv .0) (gap (c .before .before .before .before)) (c .before .before .if1 .left) (w .0 .left)))
+          (c .before .if3 .came),
+      turned-next (a .pre .0) (a .pre .1 .period-positive) (c .before .before .before .before .turn .ensures),
     )
 
 same-length-2 : tie.Need-same-length-2 Inv-loop μ-loop
@@ -126,12 +127,9 @@ walk-spec =
     μ-loop
     loop-holds
     turn-requires
-    sub-gap
     add-if2
     same-length
     returns
-    sub-backlog
-    add-row
     sub-row
     mul-row
     slice-write-row

@@ -5,7 +5,7 @@ use mathlib.Core.Bool.{Bool, true, false, cond}
 use Prim.Native.Nat.{ℕ, suc, _+_, _*_, _/_, _%_, _≤_, _<_}
 use native.Mathlib.Nat.{le-refl, mul-mod-left, div-mul-le-self, mul-le-mul}
 use native.Mathlib.Omega.{arith}
-use lib.Dec.{leb}
+use lib.Dec.{leb, eqb}
 use lib.ListN.{length, getD}
 use lib.Seq.{ext-getD}
 use borrow.Author.Tests.{eq-eqb}
@@ -26,13 +26,20 @@ use Rattle.schedule.specs.declared.answer.Row.the-variants.{Rests, Late}
 use Rattle.schedule.specs.Answer.{mostTicks, tasksOf, lateTask, row}
 use Rattle.schedule.specs.Lateness.{job-late, late-job}
 use Rattle.schedule.specs.Cases.{sound-proper}
-use Rattle.schedule.specs.Steps.{Taken, Period, brings, placed, coming, mostClear, restsTo, Level, Walk, Walked, RowFilled}
+use Rattle.schedule.specs.Steps.{Taken, Period, brings, placed, coming, mostClear, restsTo, Additive, Level, Walk, Walked, RowFilled}
 use Rattle.schedule.proofs.Tasks.{tasks-length, task-fine, level-own}
 
 -- What comes in is the load of the level.
 pub coming-load : {ts : List Task} {i : ℕ} {periods budgets : List ℕ} {size : ℕ} → Level ts i periods budgets size → coming (getD ts i none) periods budgets size ≡ load ts (full ts) i
 unfolding coming placed load released
-coming-load g = fun-ext (λ t. g .sums (brings t))
+coming-load g = fun-ext (λ t. g .sums (brings t) (brings-adds t))
+  where
+    brings-adds : (t : ℕ) → Additive (brings t)
+    brings-adds t T a b = go (eqb (t % T) 0)
+      where
+        go : (c : Bool) → cond c (a + b) 0 ≡ cond c a 0 + cond c b 0
+        go true = refl
+        go false = refl
 
 part-most : (b : Bool) (x : ℕ) → cond b x 0 ≤ x
 part-most true x = le-refl x

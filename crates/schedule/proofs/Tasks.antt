@@ -22,7 +22,7 @@ use Rattle.theory.specs.Level.{level}
 use Rattle.sheet.specs.declared.Sheet.{Sheet}
 use Rattle.schedule.specs.Answer.{mostTicks, tasksOf}
 use Rattle.schedule.specs.Cases.{sound-proper}
-use Rattle.schedule.specs.Steps.{Taken, Period, Places, Level}
+use Rattle.schedule.specs.Steps.{Taken, Period, Places, Additive, Level}
 
 -- A task whose T and C are allowed.
 pub record Fine (t : Task) : Type 0 where
@@ -100,7 +100,8 @@ pub record GatheredTo (s : Sheet) (i : ℕ) (periods budgets : List ℕ) (size n
   pub places : Places periods budgets size
   pub within : size ≤ n
   pub so-far : n ≤ s .count
-  pub sums : (f : ℕ → ℕ → ℕ) → sum size (λ p. f (getD periods p 0) (getD budgets p 0))
+  pub budgets-most : (p : ℕ) → p < size → getD budgets p 0 ≤ n * 100000
+  pub sums : (f : ℕ → ℕ → ℕ) → Additive f → sum size (λ p. f (getD periods p 0) (getD budgets p 0))
       ≡ sum n (λ j. cond (ltb (rank (tasksOf s) i) (rank (tasksOf s) j)) (f (period (tasksOf s) j) (budget (tasksOf s) j)) 0)
 
 module _ {s : Sheet} (ok : Taken s) (i : ℕ) (known : i < s .count) where
@@ -143,13 +144,14 @@ module _ {s : Sheet} (ok : Taken s) (i : ℕ) (known : i < s .count) where
     };
     within = omega arith;
     so-far = omega arith;
-    sums = λ f. refl;
+    budgets-most = λ p l. absurd (omega arith);
+    sums = λ f add. refl;
   }
 
   pub gather-level : {periods budgets : List ℕ} {size : ℕ} → GatheredTo s i periods budgets size (s .count) → Level ts i periods budgets size
   gather-level {periods} {budgets} {size} g = record {
     places = g .places;
-    sums = λ f. rw (level-own (λ j. f (period ts j) (budget ts j)), tasks-length ok) (ap (λ x. f (period ts i) (budget ts i) + x) (g .sums f));
+    sums = λ f add. rw (level-own (λ j. f (period ts j) (budget ts j)), tasks-length ok) (ap (λ x. f (period ts i) (budget ts i) + x) (g .sums f add));
   }
 
   module _ {periods budgets : List ℕ} {size j : ℕ} (g : GatheredTo s i periods budgets size j) (l : j < s .count) where
@@ -162,7 +164,7 @@ module _ {s : Sheet} (ok : Taken s) (i : ℕ) (known : i < s .count) where
         ap₂ (λ x y. cond (ltb (x .rank) (y .rank)) (f (y .period) (y .budget)) 0) (task-at ok i known) (task-at ok j l)
         ∙ ap (λ x. cond x (f (t .period) (t .budget)) 0) e
 
-    -- Task j outranks task i: it takes the next place.
+    -- Task j outranks task i: it takes the next place,
     pub gather-in : getD (s .tasks) i none .rank < t .rank → GatheredTo s i (set periods size (t .period)) (set budgets size (t .budget)) (size + 1) (j + 1)
     unfolding sum
     gather-in r = record {
@@ -177,8 +179,10 @@ module _ {s : Sheet} (ok : Taken s) (i : ℕ) (known : i < s .count) where
       };
       within = omega (arith, g .within);
       so-far = omega arith;
-      sums = λ f. rw (add-one size, add-one j) (ap₂ _+_
-          (sum-eq size _ _ (λ p m. ap₂ f (others periods (t .period) p m) (others budgets (t .budget) p m)) ∙ g .sums f)
+      budgets-most = below-more (λ p. getD (set budgets size (t .budget)) p 0 ≤ (j + 1) * 100000) size
+          (λ p m. rw (others budgets (t .budget) p m) (omega (arith, g .budgets-most p m))) (rw here-budget (omega (arith, place-fine ok j l)));
+      sums = λ f add. rw (add-one size, add-one j) (ap₂ _+_
+          (sum-eq size _ _ (λ p m. ap₂ f (others periods (t .period) p m) (others budgets (t .budget) p m)) ∙ g .sums f add)
           (ap₂ f here-period here-budget ∙ sym (same f true (lt-ltb _ _ r))));
     }
       where
@@ -191,6 +195,41 @@ module _ {s : Sheet} (ok : Taken s) (i : ℕ) (known : i < s .count) where
         here-budget : getD (set budgets size (t .budget)) size 0 ≡ t .budget
         here-budget = getD-set-same budgets size _ 0 (omega (arith, g .places .budgets-whole, g .within, ok .sound .count-most))
 
+    -- or the one that has its period, where only the budget changes.
+    pub gather-with : getD (s .tasks) i none .rank < t .rank → (p : ℕ) → p < size → getD periods p 0 ≡ t .period
+        → GatheredTo s i periods (set budgets p (getD budgets p 0 + t .budget)) size (j + 1)
+    unfolding sum
+    gather-with r p known-place e = record {
+      places = record {
+        few = g .places .few;
+        periods-whole = g .places .periods-whole;
+        budgets-whole = length-set budgets p _ ∙ g .places .budgets-whole;
+        period-positive = g .places .period-positive;
+        period-most = g .places .period-most;
+      };
+      within = omega (arith, g .within);
+      so-far = omega arith;
+      budgets-most = λ q m. most q m (ℕ-discrete q p);
+      sums = λ f add. rw (add-one j) (
+          sum-eq size _ _ (λ q m. more f add q (ℕ-discrete q p)) ∙ sum-add size (λ q. f (getD periods q 0) (getD budgets q 0)) (λ q. cond (eqb q p) (f (t .period) (t .budget)) 0)
+          ∙ ap₂ _+_ (g .sums f add) (sum-point size p _ known-place (λ q m n. rw (ne-eqb q p n)) ∙ rw (eq-eqb p p refl) (sym (same f true (lt-ltb _ _ r)))));
+    }
+      where
+        budgets′ : List ℕ
+        budgets′ = set budgets p (getD budgets p 0 + t .budget)
+
+        here : getD budgets′ p 0 ≡ getD budgets p 0 + t .budget
+        here = getD-set-same budgets p _ 0 (omega (arith, g .places .budgets-whole, g .places .few))
+
+        most : (q : ℕ) → q < size → Dec (q ≡ p) → getD budgets′ q 0 ≤ (j + 1) * 100000
+        most q m (yes z) = rw (z, here) (omega (arith, g .budgets-most p known-place, place-fine ok j l))
+        most q m (no z) = rw (getD-set-other budgets p q _ 0 z) (omega (arith, g .budgets-most q m))
+
+        more : (f : ℕ → ℕ → ℕ) → Additive f → (q : ℕ) → Dec (q ≡ p)
+            → f (getD periods q 0) (getD budgets′ q 0) ≡ f (getD periods q 0) (getD budgets q 0) + cond (eqb q p) (f (t .period) (t .budget)) 0
+        more f add q (yes z) = rw (z, here, eq-eqb p p refl, e) (add (t .period) (getD budgets p 0) (t .budget))
+        more f add q (no z) = rw (getD-set-other budgets p q _ 0 z, ne-eqb q p z) (omega arith)
+
     -- It does not: the places stay.
     pub gather-out : t .rank ≤ getD (s .tasks) i none .rank → GatheredTo s i periods budgets size (j + 1)
     unfolding sum
@@ -198,5 +237,6 @@ module _ {s : Sheet} (ok : Taken s) (i : ℕ) (known : i < s .count) where
       places = g .places;
       within = omega (arith, g .within);
       so-far = omega arith;
-      sums = λ f. rw (add-one j) (omega (arith, g .sums f, same f false (le-ltb _ _ r)));
+      budgets-most = λ p m. omega (arith, g .budgets-most p m);
+      sums = λ f add. rw (add-one j) (omega (arith, g .sums f add, same f false (le-ltb _ _ r)));
     }

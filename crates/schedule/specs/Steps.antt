@@ -68,10 +68,20 @@ unfoldable pub coming : Task → List ℕ → List ℕ → ℕ → ℕ → ℕ
 unfolding placed
 coming own periods budgets size t = brings t (own .period) (own .budget) + placed periods budgets size t
 
--- The places hold the tasks that outrank task i, in any order: a sum over these and task i is the sum over the level.
+-- The place that holds a period is found, or there is none.
+pub record PlaceOf (periods : List ℕ) (size T p : ℕ) : Type 0 where
+  pub within : p ≤ size
+  pub holds : p < size → getD periods p 0 ≡ T
+
+-- A number of a task that budgets of one period add up to.
+abbrev pub Additive : (ℕ → ℕ → ℕ) → Type 0
+Additive f = (T a b : ℕ) → f T (a + b) ≡ f T a + f T b
+
+-- The places hold the tasks that outrank task i, in any order and those of one period together: a sum over these and task i is the
+-- sum over the level.
 pub record Level (ts : List Task) (i : ℕ) (periods budgets : List ℕ) (size : ℕ) : Type 0 where
   pub places : Places periods budgets size
-  pub sums : (f : ℕ → ℕ → ℕ)
+  pub sums : (f : ℕ → ℕ → ℕ) → Additive f
       → f (period ts i) (budget ts i) + sum size (λ p. f (getD periods p 0) (getD budgets p 0)) ≡ level ts i (λ j. f (period ts j) (budget ts j))
 
 -- The first releases at or after tick t: the own task's at `due`, and each place's.

@@ -27,7 +27,7 @@ ghost use Rattle.theory.specs.Responses.{hyperperiod, jobs, allJobs, taskRespon
 ghost use Rattle.sheet.specs.Calls.{places};
 ghost use Rattle.sheet.specs.Told.{refusalIn};
 ghost use Rattle.schedule.specs.Answer.{mostTicks, tasksOf, sizesOf, responsesOf, tableAfter, greatestAfter, toldSize, toldTotals};
-ghost use Rattle.schedule.specs.Steps.{Taken, Period, Holds, refusalOf, lateOf, coming, Level, Ready, Turned, Walk, Walked, Places, RowFilled, Noted, FoundTo, Filled};
+ghost use Rattle.schedule.specs.Steps.{Taken, Period, Holds, refusalOf, lateOf, coming, PlaceOf, Level, Ready, Turned, Walk, Walked, Places, RowFilled, Noted, FoundTo, Filled};
 
 // "H at most 1,000,000; J at most 8,192"
 const MOST_TICKS: u32 = 1000000;
@@ -99,7 +99,23 @@ pub fn sizes(s: Sheet) -> Sizes
     })
 }
 
-// The periods and budgets of the tasks that outrank task i, and how many they are.
+// The place that holds a period, or the one after all places.
+fn place_of(periods: &[u32; 16], size: usize, period: u32) -> usize
+    requires { ⌜ (size ≤ 16) × (length (now periods) ≡ 16) ⌝ }
+    ensures { λ r. ⌜ PlaceOf (now (periods .entry)) size period r ⌝ }
+{
+    let mut p = 0usize;
+    while p < size {
+        if periods[p] == period {
+            return p;
+        }
+        p += 1;
+    }
+    size
+}
+
+// The periods of the tasks that outrank task i, how many they are, and the budgets of each. Tasks of one period are released
+// together, so they take one place.
 fn gather(s: Sheet, i: usize, periods: &mut [u32; 16], budgets: &mut [u32; 16]) -> usize
     requires { ⌜ Taken s ⌝ ∗ ⌜ (i < s .count) × (length (now periods) ≡ 16) × (length (now budgets) ≡ 16) ⌝ }
     ensures { λ r. ⌜ Level (tasksOf s) i (now (periods .exit)) (now (budgets .exit)) r ⌝ }
@@ -111,9 +127,14 @@ fn gather(s: Sheet, i: usize, periods: &mut [u32; 16], budgets: &mut [u32; 16]) 
     while j < n {
         let t = s.tasks[j];
         if own < t.rank {
-            periods[size] = t.period;
-            budgets[size] = t.budget;
-            size += 1;
+            let p = place_of(&*periods, size, t.period);
+            if p < size {
+                budgets[p] += t.budget;
+            } else {
+                periods[p] = t.period;
+                budgets[p] = t.budget;
+                size += 1;
+            }
         }
         j += 1;
     }

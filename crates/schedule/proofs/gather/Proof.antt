@@ -1,9 +1,9 @@
--- Each task that outranks task i takes the next place, so any sum over the places and task i is that over the level.
+-- Each task that outranks task i adds its budget to the place of its period, or takes the next place, so what the places bring is what these tasks bring.
 use mathlib.Core.Path.{_≡_, subst}
 use mathlib.Core.Logic.{⊎-elim}
 use native.Mathlib.Omega.{arith}
 use Prim.Native.Nat.{_-_, _<_}
-use Rattle.schedule.proofs.Tasks.{GatheredTo, gather-start, gather-level, gather-in, gather-out}
+use Rattle.schedule.proofs.Tasks.{GatheredTo, gather-start, gather-level, gather-in, gather-with, gather-out, place-fine}
 use borrow.Author.Needs.{needs}
 use Rattle.schedule.proofs.gather.Statement.{statement}
 use Rattle.schedule.proofs.gather.Tie as tie
@@ -33,17 +33,36 @@ mul-t c = search needs
 element-copy-out-t : tie.Need-element-copy-out-t Inv-loop μ-loop
 element-copy-out-t c = search needs
 
+place-of-requires : tie.Need-place-of-requires Inv-loop μ-loop
+place-of-requires c κs = search needs
+
+mul-budgets : tie.Need-mul-budgets Inv-loop μ-loop
+mul-budgets c = search needs
+
+element-copy-out-budgets : tie.Need-element-copy-out-budgets Inv-loop μ-loop
+element-copy-out-budgets c = search needs
+
+add-budgets : tie.Need-add-budgets Inv-loop μ-loop
+add-budgets c =
+    let a = c .before .before .before .before .before .before .before .before .before .before in
+    let l = c .before .before .before .before .before .before .before .before .before .loop in
+    let known : l .j < a .args .t1 .count = omega arith in
+    omega (arith, l .inv .budgets-most (c .before .before .before .place-of .result) (c .before .before .if2 .taken), place-fine (a .pre .0) (l .j) known, a .pre .0 .sound .count-most)
+
+element-write-budgets : tie.Need-element-write-budgets Inv-loop μ-loop
+element-write-budgets c = search needs
+
 mul-periods : tie.Need-mul-periods Inv-loop μ-loop
 mul-periods c = search needs
 
 element-write-periods : tie.Need-element-write-periods Inv-loop μ-loop
 element-write-periods c = search needs
 
-mul-budgets : tie.Need-mul-budgets Inv-loop μ-loop
-mul-budgets c = search needs
+mul-budgets-2 : tie.Need-mul-budgets-2 Inv-loop μ-loop
+mul-budgets-2 c = search needs
 
-element-write-budgets : tie.Need-element-write-budgets Inv-loop μ-loop
-element-write-budgets c = search needs
+element-write-budgets-2 : tie.Need-element-write-budgets-2 Inv-loop μ-loop
+element-write-budgets-2 c = search needs
 
 add-size : tie.Need-add-size Inv-loop μ-loop
 add-size c = search needs
@@ -60,8 +79,14 @@ loop-again c =
     let l = c .before .before .before .before .loop in
     let known : l .j < a .args .t1 .count = omega arith in
     ⊎-elim
-    (λ w. rw (w .1, w .2, w .3) (gather-in (a .pre .0) (a .args .i) (a .pre .1 .0) (l .inv) known (w .0 .taken)))
+    (λ w. rw (w .6, w .7, w .8) (gather-with (a .pre .0) (a .args .i) (a .pre .1 .0) (l .inv) known (w .0 .taken) (w .2 .result) (w .3 .taken) (w .2 .ensures .holds (w .3 .taken))))
+    (λ v.
+    ⊎-elim
+    (λ w.
+    let new : w .2 .result ≡ l .size = omega (arith, w .2 .ensures .within, w .3 .left) in
+    rw (w .4, w .5, w .6, new) (gather-in (a .pre .0) (a .args .i) (a .pre .1 .0) (l .inv) known (w .0 .taken)))
     (λ w. rw (w .1, w .2, w .3) (gather-out (a .pre .0) (a .args .i) (a .pre .1 .0) (l .inv) known (w .0 .left)))
+    v)
     (c .if1 .came)
 
 returns : tie.Need-returns Inv-loop μ-loop
@@ -83,10 +108,15 @@ gather-spec =
     loop-holds
     mul-t
     element-copy-out-t
+    place-of-requires
+    mul-budgets
+    element-copy-out-budgets
+    add-budgets
+    element-write-budgets
     mul-periods
     element-write-periods
-    mul-budgets
-    element-write-budgets
+    mul-budgets-2
+    element-write-budgets-2
     add-size
     add-j
     loop-less

@@ -89,6 +89,15 @@ uint8_t bellkettle_default_margin(const uint8_t *sheet, size_t sheet_length,
                                   int64_t *values, size_t values_length);
 
 /*
+ * What a report says, from one filling of the table. values: H, J, the idle ticks before H, the worst figure, the smallest release
+ * that gives it, the quick bound, and the margin under a limit of 1,000 ticks. The response of a task is the greatest of its row.
+ * Refuses 1 to 9, 10, 11, 14, 15.
+ */
+uint8_t bellkettle_figures(const uint8_t *sheet, size_t sheet_length,
+                           uint32_t *table, size_t table_length,
+                           int64_t *values, size_t values_length);
+
+/*
  * The fields in a sheet's bytes. values: n and m. Refuses 1 to 9, and then writes nothing. Else task i's period, budget and rank
  * are in periods[i], budgets[i] and ranks[i], the chain's entries in chain[0] to chain[m - 1], and zeros from there on up to the
  * sixteenth place. A slice of fewer than sixteen places gets as many as it has; what is past the sixteenth is not touched.

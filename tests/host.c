@@ -1,6 +1,7 @@
 /*
  * A program in C over the library: every function of include/bellkettle.h on the sheets of document 01, on each refusal that can
- * come of it, and on lent memory that is just large enough, too short by one, or empty. Figures are document 01's.
+ * come of it, and on lent memory that is just large enough, too short by one, or empty. Figures are document 01's where it has the
+ * sheet.
  */
 #include "bellkettle.h"
 
@@ -11,6 +12,9 @@
 
 #define MARK 0x5a5a5a5a
 #define MARK_BYTE 0x5a
+
+/* The most values that a call gives. */
+#define VALUES 7
 
 static unsigned checks;
 
@@ -65,19 +69,19 @@ static size_t size_of(const struct bytes *b) {
 
 /* Lent memory with a pattern in it, and one place more than is lent. */
 static uint32_t table[BELLKETTLE_TABLE + 1];
-static int64_t values[4];
+static int64_t values[VALUES + 1];
 
 static void mark(void) {
     for (size_t i = 0; i <= BELLKETTLE_TABLE; i++) {
         table[i] = MARK;
     }
-    for (size_t i = 0; i < 4; i++) {
+    for (size_t i = 0; i <= VALUES; i++) {
         values[i] = MARK;
     }
 }
 
 static void expect_marked(const char *sheet, size_t value, size_t entry) {
-    for (size_t i = value; i < 4; i++) {
+    for (size_t i = value; i <= VALUES; i++) {
         expect(sheet, "a value that is not given", values[i], MARK);
     }
     size_t touched = 0;
@@ -87,8 +91,8 @@ static void expect_marked(const char *sheet, size_t value, size_t entry) {
     expect(sheet, "entries touched that are not to be", (int64_t)touched, 0);
 }
 
-/* The six calls that fill a table, in one form. */
-enum call { RESPONSES, DELAY, WORST, BOUND, MARGIN, DEFAULT_MARGIN };
+/* The seven calls that fill a table, in one form. */
+enum call { RESPONSES, DELAY, WORST, BOUND, MARGIN, DEFAULT_MARGIN, FIGURES };
 
 static uint8_t ask(enum call call, const uint8_t *sheet, size_t length, uint32_t number, size_t room, size_t places) {
     switch (call) {
@@ -97,7 +101,8 @@ static uint8_t ask(enum call call, const uint8_t *sheet, size_t length, uint32_t
     case WORST: return bellkettle_worst(sheet, length, table, room, values, places);
     case BOUND: return bellkettle_bound(sheet, length, table, room, values, places);
     case MARGIN: return bellkettle_margin(sheet, length, number, table, room, values, places);
-    default: return bellkettle_default_margin(sheet, length, table, room, values, places);
+    case DEFAULT_MARGIN: return bellkettle_default_margin(sheet, length, table, room, values, places);
+    default: return bellkettle_figures(sheet, length, table, room, values, places);
     }
 }
 
@@ -115,15 +120,15 @@ static void expect_given(const struct fields *f, enum call call, uint32_t number
     expect_marked(f->name, count, jobs);
 }
 
-/* A refusal of 1 to 14 by any of the six. */
+/* A refusal of 1 to 14 by any of the seven. */
 static void expect_refused(const char *name, enum call call, const uint8_t *sheet, size_t length, uint32_t number, size_t room, uint8_t refusal) {
     mark();
-    expect(name, "the refusal", ask(call, sheet, length, number, room, 3), refusal);
+    expect(name, "the refusal", ask(call, sheet, length, number, room, VALUES), refusal);
     expect_marked(name, 0, 0);
 }
 
 static void expect_all_refuse(const char *name, const uint8_t *sheet, size_t length, size_t room, uint8_t refusal) {
-    for (enum call call = RESPONSES; call <= DEFAULT_MARGIN; call++) {
+    for (enum call call = RESPONSES; call <= FIGURES; call++) {
         expect_refused(name, call, sheet, length, 0, room, refusal);
     }
 }
@@ -185,6 +190,7 @@ static const struct fields radio = {"Radio", 3, {20, 6, 12}, {5, 1, 3}, {1, 3, 2
 static const struct fields radio_short = {"Radio, chain 0 1", 3, {20, 6, 12}, {5, 1, 3}, {1, 3, 2}, 2, {0, 1}};
 static const struct fields quartet = {"Quartet", 4, {6, 6, 3, 6}, {1, 1, 1, 1}, {4, 3, 2, 1}, 2, {2, 3}};
 static const struct fields lone = {"Lone", 1, {5}, {5}, {1}, 1, {0}};
+static const struct fields slow = {"a margin below zero", 1, {5000}, {2000}, {1}, 1, {0}};
 static const struct fields budget_over = {"a budget over its period", 1, {5}, {6}, {1}, 1, {0}};
 static const struct fields late = {"a late task", 2, {2, 3}, {1, 2}, {2, 1}, 1, {0}};
 static const struct fields longest = {"periods 1,000 and 999", 2, {1000, 999}, {1, 1}, {2, 1}, 1, {0}};
@@ -198,6 +204,7 @@ static void document_one(void) {
     expect_given(&trio, RESPONSES, 0, 7, rows, 3, (int64_t[]){8, 7, 1});
     expect_given(&trio, WORST, 0, 7, rows, 2, (int64_t[]){6, 0});
     expect_given(&trio, BOUND, 0, 7, rows, 1, (int64_t[]){8});
+    expect_given(&trio, FIGURES, 0, 7, rows, 7, (int64_t[]){8, 7, 1, 6, 0, 8, 994});
 }
 
 static void document_two_and_three(void) {
@@ -213,6 +220,7 @@ static void document_two_and_three(void) {
     expect_given(&radio, MARGIN, 1000, 18, rows, 1, (int64_t[]){980});
     expect_given(&radio, MARGIN, 0, 18, rows, 1, (int64_t[]){-20});
     expect_given(&radio, MARGIN, 4000000, 18, rows, 1, (int64_t[]){3999980});
+    expect_given(&radio, FIGURES, 0, 18, rows, 7, (int64_t[]){60, 18, 20, 20, 20, 24, 980});
 
     expect_sheet(&radio_short, 18);
     expect_given(&radio_short, DELAY, 0, 18, rows, 1, (int64_t[]){13});
@@ -220,18 +228,21 @@ static void document_two_and_three(void) {
     expect_given(&radio_short, DELAY, 40, 18, rows, 1, (int64_t[]){9});
     expect_given(&radio_short, WORST, 0, 18, rows, 2, (int64_t[]){13, 0});
     expect_given(&radio_short, BOUND, 0, 18, rows, 1, (int64_t[]){15});
+    expect_given(&radio_short, FIGURES, 0, 18, rows, 7, (int64_t[]){60, 18, 20, 13, 0, 15, 987});
 }
 
 static void document_four_to_six(void) {
     expect_sheet(&quartet, 5);
     expect_given(&quartet, WORST, 0, 5, NULL, 2, (int64_t[]){8, 3});
     expect_given(&quartet, BOUND, 0, 5, NULL, 1, (int64_t[]){8});
+    expect_given(&quartet, FIGURES, 0, 5, NULL, 7, (int64_t[]){6, 5, 1, 8, 3, 8, 992});
 
     const uint8_t printed[] = {0x08, 0x00, 0x14, 0x00, 0x0A, 0x02, 0x10};
     expect_sheet(&lone, 1);
     expect_read("Lone as printed", printed, sizeof printed, 0, &lone);
     expect_given(&lone, WORST, 0, 1, (uint32_t[]){5}, 2, (int64_t[]){5, 0});
     expect_given(&lone, BOUND, 0, 1, (uint32_t[]){5}, 1, (int64_t[]){5});
+    expect_given(&lone, FIGURES, 0, 1, (uint32_t[]){5}, 7, (int64_t[]){5, 1, 0, 5, 0, 5, 995});
 
     struct bytes sheet = pack(&budget_over);
     expect_all_refuse(budget_over.name, sheet.at, size_of(&sheet), 1, 4);
@@ -243,7 +254,7 @@ static void document_four_to_six(void) {
 static void document_seven(void) {
     struct bytes sheet = pack(&late);
     expect_sheet(&late, 5);
-    for (enum call call = RESPONSES; call <= DEFAULT_MARGIN; call++) {
+    for (enum call call = RESPONSES; call <= FIGURES; call++) {
         for (size_t places = 0; places < 2; places++) {
             mark();
             expect(late.name, "the refusal", ask(call, sheet.at, size_of(&sheet), 0, 5, places), 15);
@@ -341,6 +352,13 @@ static void refusals_of_numbers(void) {
     expect_refused("a limit at the last number", MARGIN, sheet.at, size, UINT32_MAX, 18, 13);
 }
 
+/* A task alone, whose response is its budget, and that over 1,000. */
+static void margin_below_zero(void) {
+    expect_sheet(&slow, 1);
+    expect_given(&slow, DEFAULT_MARGIN, 0, 1, (uint32_t[]){2000}, 1, (int64_t[]){-1000});
+    expect_given(&slow, FIGURES, 0, 1, (uint32_t[]){2000}, 7, (int64_t[]){5000, 1, 3000, 2000, 0, 2000, -1000});
+}
+
 /* Lent memory that is short or none gets as much as it has places for. */
 static void short_memory(void) {
     struct bytes sheet = pack(&radio);
@@ -349,6 +367,9 @@ static void short_memory(void) {
     expect("one value of two", "the number returned", ask(WORST, sheet.at, size, 0, 18, 1), 0);
     expect("one value of two", "the value", values[0], 20);
     expect_marked("one value of two", 1, 18);
+    for (size_t places = 0; places < VALUES; places++) {
+        expect_given(&radio, FIGURES, 0, 18, NULL, places, (int64_t[]){60, 18, 20, 20, 20, 24});
+    }
     expect("nothing lent", "the refusal", bellkettle_worst(sheet.at, size, NULL, 0, NULL, 0), 14);
     expect("no values lent", "the number returned", bellkettle_worst(sheet.at, size, table, 18, NULL, 0), 0);
 
@@ -368,6 +389,7 @@ int main(void) {
     refusals_of_fields();
     refusals_of_lengths();
     refusals_of_numbers();
+    margin_below_zero();
     short_memory();
     printf("host: %u checks\n", checks);
     return 0;

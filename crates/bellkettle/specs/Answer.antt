@@ -1,7 +1,7 @@
 -- What a program in C gets from a call: the number that it returns, and what is left in lent memory. Quotations are from document 01.
 use mathlib.Core.Path.{_≡_}
 use mathlib.Core.Bool.{cond}
-use mathlib.Core.List.{List, [], _∷_, map}
+use mathlib.Core.List.{List, [], _∷_, _++_, map}
 use Prim.Native.Nat.{ℕ, min}
 use lib.Dec.{eqb}
 use lib.IntN.{ℤ, pos}
@@ -16,6 +16,7 @@ use Rattle.sheet.specs.Calls.{places, readOf, writeOf, bufferAfter}
 use Rattle.schedule.specs.declared.answer.Totals.{Totals}
 use Rattle.schedule.specs.Answer.{tasksOf}
 use Rattle.chain.specs.declared.answer.Figure.{Figure}
+use Rattle.chain.specs.declared.answer.Summary.{Summary}
 use Rattle.chain.specs.Answer.{leaves}
 
 -- "A refusal returns its number": 0 where there is none.
@@ -51,6 +52,9 @@ totalsNumbers t = pos (t .hyperperiod) ∷ pos (t .jobs) ∷ pos (t .idle) ∷ [
 
 abbrev pub figureNumbers : Figure → List ℤ
 figureNumbers f = pos (f .ticks) ∷ pos (f .release) ∷ []
+
+abbrev pub summaryNumbers : Summary → List ℤ
+summaryNumbers s = totalsNumbers (s .totals) ++ figureNumbers (s .worst) ++ alone (s .bound) ++ signed (s .margin)
 
 -- The bytes are judged first, and then the sheet as the call does.
 abbrev pub answered : {A : Type 0} → List ℕ → (Sheet → Answer A) → (A → List ℤ) → Answer (List ℤ)

@@ -31,11 +31,13 @@ use Rattle.chain.specs.declared.answer.Bound.{Bound}
 use Rattle.chain.specs.declared.answer.Bound.the-variants.{Ticks as BoundTicks, No as NoBound}
 use Rattle.chain.specs.declared.answer.Margin.{Margin}
 use Rattle.chain.specs.declared.answer.Margin.the-variants.{Ticks as MarginTicks, No as NoMargin}
-use Rattle.chain.specs.Answer.{toldDelay, toldWorst, toldBound, toldMargin, leaves}
+use Rattle.chain.specs.declared.answer.Figures.{Figures}
+use Rattle.chain.specs.declared.answer.Figures.the-variants.{Of, No as NoFigures}
+use Rattle.chain.specs.Answer.{toldDelay, toldWorst, toldBound, toldMargin, toldFigures, leaves}
 use Rattle.chain.specs.Cases.{after-refusal}
 use Rattle.bellkettle.specs.declared.Outcome.{Outcome}
-use Rattle.bellkettle.specs.Answer.{alone, signed, totalsNumbers, figureNumbers, Returned, lentAfter, Ended}
-use Rattle.bellkettle.specs.Steps.{toldOutcome, verdictOutcome, totalsOutcome, delayOutcome, worstOutcome, boundOutcome, marginOutcome, sizeOutcome, sizeIn}
+use Rattle.bellkettle.specs.Answer.{alone, signed, totalsNumbers, figureNumbers, summaryNumbers, Returned, lentAfter, Ended}
+use Rattle.bellkettle.specs.Steps.{toldOutcome, verdictOutcome, totalsOutcome, delayOutcome, worstOutcome, boundOutcome, marginOutcome, figuresOutcome, sizeOutcome, sizeIn}
 
 -- ---- they tell what the calls told
 
@@ -58,6 +60,10 @@ bound-told (NoBound r) = sym (after-refusal r _)
 pub margin-told : (m : Margin) → toldOutcome (marginOutcome m) ≡ after (toldMargin m) (λ z. given (signed z))
 margin-told (MarginTicks z) = refl
 margin-told (NoMargin r) = sym (after-refusal r _)
+
+pub figures-told : (a : Figures) → toldOutcome (figuresOutcome a) ≡ after (toldFigures a) (λ s. given (summaryNumbers s))
+figures-told (Of s) = refl
+figures-told (NoFigures r) = sym (after-refusal r _)
 
 pub size-told : (w : Written) → toldOutcome (sizeOutcome w) ≡ after (toldBytes w) (λ n. given (alone n))
 size-told (Bytes n) = refl

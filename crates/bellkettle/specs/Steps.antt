@@ -17,14 +17,18 @@ use Rattle.chain.specs.declared.answer.Bound.{Bound}
 use Rattle.chain.specs.declared.answer.Bound.the-variants.{Ticks as BoundTicks, No as NoBound}
 use Rattle.chain.specs.declared.answer.Margin.{Margin}
 use Rattle.chain.specs.declared.answer.Margin.the-variants.{Ticks as MarginTicks, No as NoMargin}
+use Rattle.chain.specs.declared.answer.Figures.{Figures}
+use Rattle.chain.specs.declared.answer.Figures.the-variants.{Of, No as NoFigures}
 use Rattle.bellkettle.specs.declared.Outcome.{Outcome}
-use Rattle.bellkettle.specs.declared.Outcome.the-variants.{One, Two, Three, Signed, No}
+use Rattle.bellkettle.specs.declared.Outcome.the-variants.{One, Two, Three, Signed, All, No}
+use Rattle.bellkettle.specs.Answer.{summaryNumbers}
 
 abbrev pub toldOutcome : Outcome → Answer (List ℤ)
 toldOutcome (One a) = given (pos a ∷ [])
 toldOutcome (Two a b) = given (pos a ∷ pos b ∷ [])
 toldOutcome (Three a b c) = given (pos a ∷ pos b ∷ pos c ∷ [])
 toldOutcome (Signed z) = given (z ∷ [])
+toldOutcome (All s) = given (summaryNumbers s)
 toldOutcome (No r) = refusal r
 
 abbrev pub verdictOutcome : Verdict → Outcome
@@ -49,6 +53,10 @@ boundOutcome (NoBound r) = No r
 abbrev pub marginOutcome : Margin → Outcome
 marginOutcome (MarginTicks z) = Signed z
 marginOutcome (NoMargin r) = No r
+
+abbrev pub figuresOutcome : Figures → Outcome
+figuresOutcome (Of s) = All s
+figuresOutcome (NoFigures r) = No r
 
 abbrev pub sizeOutcome : Written → Outcome
 sizeOutcome (Bytes n) = One n

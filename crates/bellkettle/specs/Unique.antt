@@ -7,8 +7,8 @@ use lib.ListN.{length}
 use Rattle.sheet.specs.declared.Sheet.{Sheet}
 use Rattle.sheet.specs.Answers.{Answer, given}
 use Rattle.schedule.specs.Answer.{responsesOf}
-use Rattle.chain.specs.Answer.{delayOf, worstOf, boundOf, marginOf, defaultMarginOf}
-use Rattle.bellkettle.specs.Answer.{Returned, alone, signed, totalsNumbers, figureNumbers, answered, Ended, countsOf, periodsIn, budgetsIn, ranksIn, entriesIn, fieldsAfter, sheetFrom, written, WriteEnded}
+use Rattle.chain.specs.Answer.{delayOf, worstOf, boundOf, marginOf, defaultMarginOf, figuresOf}
+use Rattle.bellkettle.specs.Answer.{Returned, alone, signed, totalsNumbers, figureNumbers, summaryNumbers, answered, Ended, countsOf, periodsIn, budgetsIn, ranksIn, entriesIn, fieldsAfter, sheetFrom, written, WriteEnded}
 
 -- Two ends that meet a call's promise are equal: the returned numbers x and y, the values v and w, the tables t and u.
 
@@ -43,6 +43,10 @@ module _ (bytes : List ℕ) (values v w : List ℤ) (table t u : List ℕ) (x y 
   pub default-margin-unique : Ended bytes (λ s. defaultMarginOf s (length table)) signed x values v table t
       → Ended bytes (λ s. defaultMarginOf s (length table)) signed y values w table u → ((x ≡ y) × (v ≡ w)) × (t ≡ u)
   default-margin-unique = ended-unique (λ s. defaultMarginOf s (length table)) signed
+
+  pub figures-unique : Ended bytes (λ s. figuresOf s (length table)) summaryNumbers x values v table t
+      → Ended bytes (λ s. figuresOf s (length table)) summaryNumbers y values w table u → ((x ≡ y) × (v ≡ w)) × (t ≡ u)
+  figures-unique = ended-unique (λ s. figuresOf s (length table)) summaryNumbers
 
 -- What a read leaves in the slice of a field: in that of the periods, of the budgets, of the ranks and of the chain's entries.
 pub record Read (bytes : List ℕ) (x : ℕ) (values v : List ℤ) (periods p budgets b ranks r chain e : List ℕ) : Type 0 where

@@ -3,7 +3,9 @@
 // lengths. What is returned and left is defined in specs/Answer.antt; include/bellkettle.h says it to those who call.
 use chain::Bound;
 use chain::Delay;
+use chain::Figures;
 use chain::Margin;
+use chain::Summary;
 use chain::Worst;
 use schedule::Responses;
 use sheet::Refusal;
@@ -15,21 +17,23 @@ ghost use mathlib.Core.Path.{_≡_};
 ghost use Prim.Native.Nat.{_≤_, min};
 ghost use lib.IntN.{pos};
 ghost use lib.ListN.{length, getD, set};
+ghost use lib.Seq.{sets};
 ghost use Rattle.theory.specs.Model.{none};
 ghost use Rattle.sheet.specs.Answers.{given};
 ghost use Rattle.sheet.specs.Calls.{places};
 ghost use Rattle.sheet.specs.Told.{refusal};
 ghost use Rattle.schedule.specs.Answer.{responsesOf};
-ghost use Rattle.chain.specs.Answer.{delayOf, worstOf, boundOf, marginOf, defaultMarginOf};
-ghost use Rattle.bellkettle.specs.Answer.{numberOf, valuesAfter, Returned, alone, signed, totalsNumbers, figureNumbers, answered, Ended, countsOf, periodsIn, budgetsIn, ranksIn, entriesIn, sixteen, fieldsAfter, counted, tasksCounted, taskFrom, sheetFrom, WriteEnded};
-ghost use Rattle.bellkettle.specs.Steps.{toldOutcome, verdictOutcome, totalsOutcome, delayOutcome, worstOutcome, boundOutcome, marginOutcome, sizeIn, sizeOutcome};
+ghost use Rattle.chain.specs.Answer.{delayOf, worstOf, boundOf, marginOf, defaultMarginOf, figuresOf};
+ghost use Rattle.bellkettle.specs.Answer.{numberOf, valuesAfter, Returned, alone, signed, totalsNumbers, figureNumbers, summaryNumbers, answered, Ended, countsOf, periodsIn, budgetsIn, ranksIn, entriesIn, sixteen, fieldsAfter, counted, tasksCounted, taskFrom, sheetFrom, WriteEnded};
+ghost use Rattle.bellkettle.specs.Steps.{toldOutcome, verdictOutcome, totalsOutcome, delayOutcome, worstOutcome, boundOutcome, marginOutcome, figuresOutcome, sizeIn, sizeOutcome};
 
-// What any call answers: one to three numbers, a margin, or a refusal.
+// What any call answers: one to three numbers, a margin, all that a report says, or a refusal.
 enum Outcome {
     One(u32),
     Two(u32, u32),
     Three(u32, u32, u32),
     Signed(i32),
+    All(Summary),
     No(Refusal),
 }
 
@@ -54,6 +58,19 @@ fn put_signed(values: &mut [i64], i: usize, z: i32)
     if i < values.len() {
         values[i] = z as i64;
     }
+}
+
+// H, J and idle, the worst figure and its release, the bound, the margin.
+fn put_summary(values: &mut [i64], s: Summary)
+    ensures { λ _. ⌜ now (values .exit) ≡ sets (now (values .entry)) 0 (summaryNumbers s) ⌝ }
+{
+    put(&mut *values, 0, s.totals.hyperperiod);
+    put(&mut *values, 1, s.totals.jobs);
+    put(&mut *values, 2, s.totals.idle);
+    put(&mut *values, 3, s.worst.ticks);
+    put(&mut *values, 4, s.worst.release);
+    put(&mut *values, 5, s.bound);
+    put_signed(&mut *values, 6, s.margin);
 }
 
 // "A refusal returns its number; 15 also returns the index of the greatest-ranked late task."
@@ -93,6 +110,10 @@ fn hand(o: Outcome, values: &mut [i64]) -> u8
         }
         Outcome::Signed(z) => {
             put_signed(&mut *values, 0, z);
+            0
+        }
+        Outcome::All(s) => {
+            put_summary(&mut *values, s);
             0
         }
         Outcome::No(r) => refuse(r, &mut *values),
@@ -150,6 +171,15 @@ fn margin_outcome(m: Margin) -> Outcome
     match m {
         Margin::Ticks(z) => Outcome::Signed(z),
         Margin::No(r) => Outcome::No(r),
+    }
+}
+
+fn figures_outcome(a: Figures) -> Outcome
+    ensures { λ r. ⌜ r ≡ figuresOutcome a ⌝ }
+{
+    match a {
+        Figures::Of(s) => Outcome::All(s),
+        Figures::No(r) => Outcome::No(r),
     }
 }
 
@@ -259,6 +289,21 @@ pub extern "C" fn bellkettle_default_margin(
     };
     let answer = chain::default_margin(reading.sheet, &mut *table);
     hand(margin_outcome(answer), &mut *values)
+}
+
+// What a report says, from one filling of the table.
+#[no_mangle]
+pub extern "C" fn bellkettle_figures(sheet: &[u8], table: &mut [u32], values: &mut [i64]) -> u8
+    ensures { λ r. ⌜ Ended (now (sheet .entry)) (λ s. figuresOf s (length (now (table .entry)))) summaryNumbers r (now (values .entry)) (now (values .exit)) (now (table .entry)) (now (table .exit)) ⌝ }
+{
+    let reading = sheet::read(sheet);
+    let verdict = reading.verdict;
+    let Verdict::Fine = verdict else {
+        return hand(verdict_outcome(verdict), &mut *values);
+    };
+    let filled = chain::figures(reading.sheet, &mut *table);
+    let answer = filled.answer;
+    hand(figures_outcome(answer), &mut *values)
 }
 
 // A number in its place, if the lent slice has it.

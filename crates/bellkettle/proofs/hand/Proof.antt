@@ -45,6 +45,12 @@ put-signed-requires c κs = search needs
 enum-known-o-5 : tie.Need-enum-known-o-5
 enum-known-o-5 c = search needs
 
+put-summary-requires : tie.Need-put-summary-requires
+put-summary-requires c κs = search needs
+
+enum-known-o-6 : tie.Need-enum-known-o-6
+enum-known-o-6 c = search needs
+
 refuse-requires : tie.Need-refuse-requires
 refuse-requires c κs = search needs
 
@@ -87,7 +93,13 @@ same-length-5 : tie.Need-same-length-5
 same-length-5 c = search needs
 
 returns-5 : tie.Need-returns-5
-returns-5 c = rw (c .before .before .before .before .o5 .given .1) (c .before .refuse .ensures)
+returns-5 c = rw (c .before .before .before .before .o5 .given .1) (refl, c .before .put-summary .ensures)
+
+same-length-6 : tie.Need-same-length-6
+same-length-6 c = search needs
+
+returns-6 : tie.Need-returns-6
+returns-6 c = rw (c .before .before .before .before .o6 .given .1) (c .before .refuse .ensures)
 
 pub hand-spec : {M : Type 1} → statement M
 hand-spec =
@@ -105,6 +117,8 @@ hand-spec =
     enum-known-o-4
     put-signed-requires
     enum-known-o-5
+    put-summary-requires
+    enum-known-o-6
     refuse-requires
     same-length
     returns
@@ -115,4 +129,6 @@ hand-spec =
     same-length-4
     returns-4
     same-length-5
-    returns-5)
+    returns-5
+    same-length-6
+    returns-6)

@@ -1,0 +1,78 @@
+-- Bytes that are refused end the call; else it ends as its namesake does with the sheet.
+use mathlib.Core.Path.{ap, _∙_}
+use lib.ListN.{length}
+use Rattle.sheet.specs.Answers.{given, after}
+use Rattle.chain.specs.Answer.{figuresOf}
+use Rattle.bellkettle.specs.Answer.{summaryNumbers}
+use Rattle.bellkettle.specs.Steps.{toldOutcome}
+use Rattle.bellkettle.specs.Endings.{figures-told, ended-no, ended-given}
+use borrow.Author.Needs.{needs}
+use Rattle.bellkettle.proofs.bellkettle_figures.Statement.{statement}
+use Rattle.bellkettle.proofs.bellkettle_figures.Tie as tie
+
+read-requires : tie.Need-read-requires
+read-requires c κs = search needs
+
+enum-told : tie.Need-enum-told
+enum-told c = search needs
+
+enum-told-2 : tie.Need-enum-told-2
+enum-told-2 c = search needs
+
+verdict-outcome-requires : tie.Need-verdict-outcome-requires
+verdict-outcome-requires c κs = search needs
+
+hand-requires : tie.Need-hand-requires
+hand-requires c κs = search needs
+
+same-length : tie.Need-same-length
+same-length c = search needs
+
+returns : tie.Need-returns
+returns c =
+    let a = c .before .before .before .before .before .before .before .before .before .args in
+    let r = c .before .before .before .before .before .before .read in
+    let o = c .before .before .before .verdict-outcome in
+    ended-no (a .sheet .now) (r .result) (r .ensures .0) (λ s. figuresOf s (length (a .table .now))) summaryNumbers (o .result) (a .values .now) (a .table .now) (c .before .before .before .before .enum-told2 .given .1) (o .ensures) (c .before .hand .ensures)
+
+figures-requires : tie.Need-figures-requires
+figures-requires c κs = search needs
+
+figures-outcome-requires : tie.Need-figures-outcome-requires
+figures-outcome-requires c κs = search needs
+
+hand-requires-2 : tie.Need-hand-requires-2
+hand-requires-2 c κs = search needs
+
+same-length-2 : tie.Need-same-length-2
+same-length-2 c = search needs
+
+same-length-3 : tie.Need-same-length-3
+same-length-3 c = search needs
+
+returns-2 : tie.Need-returns-2
+returns-2 c =
+    let a = c .before .before .before .before .before .before .before .before .before .before .before .before .before .args in
+    let r = c .before .before .before .before .before .before .before .before .before .before .read in
+    let answer = c .before .before .before .before .before .before .figures in
+    let o = c .before .before .before .figures-outcome in
+    ended-given (a .sheet .now) (r .result) (r .ensures .0) (λ s. figuresOf s (length (a .table .now))) summaryNumbers (o .result) (a .values .now) (a .table .now) (c .before .before .before .before .before .before .before .before .enum-told .given .1)
+    (ap toldOutcome (o .ensures) ∙ figures-told (answer .result .answer) ∙ ap (λ x. after x (λ y. given (summaryNumbers y))) (answer .ensures .0)) (c .before .hand2 .ensures) (answer .ensures .1 .0)
+
+pub bellkettle-figures-spec : {M : Type 1} → statement M
+bellkettle-figures-spec =
+    tie.close
+    (tie.spec
+    read-requires
+    enum-told
+    enum-told-2
+    verdict-outcome-requires
+    hand-requires
+    same-length
+    returns
+    figures-requires
+    figures-outcome-requires
+    hand-requires-2
+    same-length-2
+    same-length-3
+    returns-2)

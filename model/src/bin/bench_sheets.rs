@@ -55,10 +55,20 @@ fn main() {
     for jobs in [1_000, 2_000, 4_000, 8_192] {
         sheets.add("jobs", &format!("jobs-{jobs}"), &pair(2 * (jobs - 1)), &[0, 1]);
     }
-    for n in [2, 4, 6, 8, 10, 14, 16] {
+    let different: [&[u32]; 5] = [
+        &[20, 81_900],
+        &[400, 625, 40_000, 62_500],
+        &[800, 1_000, 1_600, 2_000, 3_125, 5_000, 8_000, 31_250],
+        &[1_000, 1_250, 1_600, 2_000, 2_500, 3_125, 6_250, 8_000, 15_625, 20_000, 40_000, 50_000],
+        &[1_000, 1_250, 1_600, 2_000, 3_125, 4_000, 6_250, 8_000, 10_000, 12_500, 20_000, 25_000, 31_250, 40_000, 50_000, 100_000],
+    ];
+    for periods in different {
+        sheets.add("tasks", &format!("tasks-{}", periods.len()), &rate_monotonic(periods), &[0, 1]);
+    }
+    for n in [2, 4, 8, 16] {
         let mut tasks: Vec<Task> = (1..n).map(|i| task(20, 1, i as u8)).collect();
         tasks.push(task(20 * (4_095 / (n - 1)), 1, 0));
-        sheets.add("tasks", &format!("tasks-{n}"), &tasks, &[0, 1]);
+        sheets.add("alike", &format!("alike-{n}"), &tasks, &[0, 1]);
     }
     for length in [1, 2, 4, 8, 16] {
         sheets.add("chain", &format!("chain-{length}"), &rate_monotonic(&full), &straight(length));

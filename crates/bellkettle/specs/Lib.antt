@@ -3,5 +3,6 @@ pub mod Answer
 -- What the functions under the calls answer each other, and laws of it.
 pub mod Steps
 pub mod Endings
--- The result: one returned number and one content of lent memory for each input.
+-- The results: 0 exactly when the answer is given, and one returned number and one content of lent memory for each input.
+pub mod Results
 pub mod Unique

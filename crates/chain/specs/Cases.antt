@@ -1,8 +1,9 @@
 -- The answers case by case: a refusal met on the way, or none, and what the table is left as.
-use mathlib.Core.Path.{_≡_, refl, sym, ap, _∙_, subst}
+use mathlib.Core.Path.{_≡_, refl, sym, ap, _∙_}
 use mathlib.Core.List.{List, []}
 use Prim.Native.Nat.{ℕ, _%_, _≤_, _<_}
 use native.Mathlib.Omega.{arith}
+use lib.Dec.{ltb}
 use lib.IntN.{ℤ}
 use borrow.Author.Tests.{lt-ltb, le-ltb, le-leb, lt-leb, ne-eqb}
 use Rattle.theory.specs.declared.Task.{Task}
@@ -12,15 +13,16 @@ use Rattle.sheet.specs.declared.Sheet.{Sheet}
 use Rattle.sheet.specs.declared.Refusal.{Refusal}
 use Rattle.sheet.specs.declared.Refusal.the-variants.{Number, Late}
 use Rattle.sheet.specs.Answers.{Answer, given, refused, after}
+use Rattle.sheet.specs.NumberLaws.{Numbered, given-numbered, numbered-wider, when-numbered, after-numbered, also-numbered}
 use Rattle.sheet.specs.Sound.{judged-sound}
 use Rattle.sheet.specs.Told.{refusal}
 use Rattle.schedule.specs.declared.answer.Totals.{Totals}
 use Rattle.schedule.specs.declared.answer.Size.{Size}
 use Rattle.schedule.specs.Answer.{tasksOf, sizesOf, responsesOf, tableAfter}
-use Rattle.schedule.specs.Cases.{NumberMost, sizes-most}
+use Rattle.schedule.specs.Cases.{sizes-numbered, responses-numbered}
 use Rattle.schedule.specs.Results.{responses-given}
 use Rattle.chain.specs.declared.answer.Figure.{Figure}
-use Rattle.chain.specs.Answer.{chainOf, firstOf, delayAt, less, mostLimit, delayOf, worstOf, marginOf, leaves}
+use Rattle.chain.specs.Answer.{chainOf, firstOf, delayAt, figureOf, quickBound, less, noRelease, summaryOf, mostLimit, delayOf, worstOf, boundOf, marginOf, figuresOf, leaves}
 use Rattle.chain.specs.Steps.{Taken}
 
 -- ---- the sheet and the table behind a filled answer
@@ -64,8 +66,8 @@ module _ {A B : Type 0} (ts : List Task) (old : List ℕ) {source : Answer A} (n
 
 -- A refusal of H and J leaves the table untouched,
 pub sizes-untouched : (s : Sheet) (old : List ℕ) (r : Refusal) → sizesOf s ≡ refusal r → old ≡ leaves (sizesOf s) (tasksOf s) old
-sizes-untouched s old (Number n) e = let l : n ≤ 11 = subst (NumberMost 11) e (sizes-most s) in rw (e, ne-eqb n 15 (λ z. omega arith))
-sizes-untouched s old (Late i) e = absurd (omega (arith, subst (NumberMost 11) e (sizes-most s)))
+sizes-untouched s old (Number n) e = let l : n ≤ 11 = sizes-numbered s .most e in rw (e, ne-eqb n 15 (λ z. omega arith))
+sizes-untouched s old (Late i) e = absurd (omega (arith, sizes-numbered s .most e))
 
 -- and so does 12 or 13.
 pub ended-number : {A : Type 0} {definition : Answer A} (n : ℕ) (ts : List Task) (old : List ℕ) → n ≤ 14 → definition ≡ refused n [] → Ended definition ts old (refused n []) old
@@ -106,3 +108,36 @@ margin-asked s room limit h = rw (le-ltb mostLimit limit h) (go (sizesOf s) _ _ 
         → after z (λ size. after (after (after z fill) figure) less) ≡ after (after (after z fill) figure) less
     go (given size) fill figure less = refl
     go (refused number values) fill figure less = refl
+
+-- ---- the numbers of refusal
+
+module _ (s : Sheet) (room : ℕ) where
+  filled-numbered : {A : Type 0} (x : Totals → A) → Numbered 2 15 (after (responsesOf s room) (λ totals. given (x totals)))
+  filled-numbered x = after-numbered (responses-numbered s room) (λ totals. given-numbered (x totals))
+
+  pub worst-numbered : Numbered 2 15 (worstOf s room)
+  unfolding worstOf
+  worst-numbered = filled-numbered (λ totals. figureOf (tasksOf s) (chainOf s))
+
+  pub bound-numbered : Numbered 2 15 (boundOf s room)
+  unfolding boundOf
+  bound-numbered = filled-numbered (λ totals. quickBound (tasksOf s) (chainOf s))
+
+  pub figures-numbered : Numbered 2 15 (figuresOf s room)
+  unfolding figuresOf
+  figures-numbered = filled-numbered (summaryOf (tasksOf s) (chainOf s))
+
+  sized-numbered : {A : Type 0} {rest : Size → Answer A} → ((size : Size) → Numbered 2 15 (rest size)) → Numbered 2 15 (after (sizesOf s) rest)
+  sized-numbered n = after-numbered (numbered-wider (sizes-numbered s) (omega arith) (omega arith)) n
+
+  pub delay-numbered : (release : ℕ) → Numbered 2 15 (delayOf s release room)
+  unfolding delayOf
+  delay-numbered release =
+      sized-numbered (λ size. also-numbered (when-numbered (noRelease (tasksOf s) (chainOf s) release) 12 (omega arith) (omega arith))
+      (filled-numbered (λ totals. delayAt (tasksOf s) (chainOf s) release)))
+
+  pub margin-numbered : (limit : ℕ) → Numbered 2 15 (marginOf s limit room)
+  unfolding marginOf
+  margin-numbered limit =
+      sized-numbered (λ size. also-numbered (when-numbered (ltb mostLimit limit) 13 (omega arith) (omega arith))
+      (after-numbered worst-numbered (λ figure. given-numbered (less limit (figure .ticks)))))

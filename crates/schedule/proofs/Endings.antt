@@ -18,7 +18,7 @@ use Rattle.schedule.specs.declared.answer.Totals.{Totals}
 use Rattle.schedule.specs.declared.answer.Size.{Size}
 use Rattle.schedule.specs.declared.answer.Found.the-variants.{Lowest, Late as LateFound}
 use Rattle.schedule.specs.Answer.{tasksOf, lateGreatest, rows, sizesOf, responsesOf, tableAfter}
-use Rattle.schedule.specs.Cases.{NumberMost, sizes-most, sizes-given, responses-refused, responses-small, responses-late, responses-full}
+use Rattle.schedule.specs.Cases.{sizes-numbered, sizes-given, responses-refused, responses-small, responses-late, responses-full}
 use Rattle.schedule.specs.Steps.{Taken, LowestTo, Filled}
 use Rattle.schedule.proofs.Tasks.{tasks-length}
 use Rattle.schedule.proofs.Notes.{lowest-idle}
@@ -35,8 +35,8 @@ module _ (s : Sheet) (old : List ℕ) where
   untouched n l = rw (ne-eqb n 15 (λ z. omega arith))
 
   pub ended-refused : (r : Refusal) → sizesOf s ≡ refusal r → Ended s old (refusal r) old
-  ended-refused (Number n) e = ended (responses-refused s (length old) (Number n) e) (untouched n (omega (arith, subst (NumberMost 11) e (sizes-most s))))
-  ended-refused (Late i) e = absurd (omega (arith, subst (NumberMost 11) e (sizes-most s)))
+  ended-refused (Number n) e = ended (responses-refused s (length old) (Number n) e) (untouched n (omega (arith, sizes-numbered s .most e)))
+  ended-refused (Late i) e = absurd (omega (arith, sizes-numbered s .most e))
 
   module _ {size : Size} (fits : sizesOf s ≡ given size) where
     pub ended-small : length old < size .jobs → Ended s old (refused 14 []) old

@@ -1,80 +1,45 @@
 -- The answer of `responses`, case by case: what each is given for, and what is known where it is given.
 use mathlib.Core.Path.{_≡_, sym, ap, _∙_, subst}
 use mathlib.Core.List.{[], _∷_}
-use mathlib.Core.Bool.{Bool, true, false}
 use Prim.Native.Nat.{ℕ, _≤_, _<_}
 use native.Mathlib.Omega.{arith}
-use lib.Dec.{ltb, leb}
+use lib.Dec.{ltb}
 use lib.ListN.{length, getD, length-take}
 use lib.Seq.{getD-take}
 use borrow.Author.Tests.{ltb-false, lt-ltb, le-ltb}
-use Rattle.theory.specs.Model.{none, Proper, idle, busy}
+use Rattle.theory.specs.Model.{none, Proper, Slot, idle, busy}
 use Rattle.theory.specs.Responses.{hyperperiod, allJobs, idleTicks}
 use Rattle.sheet.specs.declared.Sheet.{Sheet}
 use Rattle.sheet.specs.declared.Refusal.{Refusal}
 use Rattle.sheet.specs.declared.Refusal.the-variants.{Number, Late}
-use Rattle.sheet.specs.Answers.{Answer, given, refused, Judgement, fine, when, also, first}
-use Rattle.sheet.specs.Calls.{fieldsOf, judgeOf}
-use Rattle.sheet.specs.Fields.{outside, among, judged}
-use Rattle.sheet.specs.EachLaws.{All, each-all}
+use Rattle.sheet.specs.Answers.{given, refused, fine, when}
+use Rattle.sheet.specs.Calls.{judgeOf}
+use Rattle.sheet.specs.NumberLaws.{Numbered, given-numbered, refused-numbered, numbered-wider, when-numbered, after-numbered, also-numbered, judge-numbered}
 use Rattle.sheet.specs.Told.{refusal}
 use Rattle.sheet.specs.Sound.{Sound, when-fine, also-given}
 use Rattle.schedule.specs.declared.answer.Size.{Size}
-use Rattle.schedule.specs.Answer.{mostTicks, mostJobs, tasksOf, lateGreatest, sizesOf, responsesOf}
+use Rattle.schedule.specs.Answer.{mostTicks, mostJobs, tasksOf, lateGreatest, lateness, sizesOf, responsesOf}
 
 -- The numbers of refusal
 
--- A number of refusal is at most m.
-abbrev pub NumberMost : {A : Type 0} → ℕ → Answer A → Type 0
-NumberMost m (given a) = Unit {0}
-NumberMost m (refused number values) = number ≤ m
-
-module _ (m : ℕ) where
-  when-most : (b : Bool) (number : ℕ) → number ≤ m → NumberMost m (when b number)
-  when-most true number l = l
-  when-most false number l = tt
-
-  also-most : {A : Type 0} (j : Judgement) (a : Answer A) → NumberMost m j → NumberMost m a → NumberMost m (also j a)
-  also-most (given u) a p q = q
-  also-most (refused number values) a p q = p
-
-  first-most : (s : Sheet) (fs : _) → All (λ f. NumberMost m (judged s f)) fs → NumberMost m (first (judged s) fs)
-  unfolding first
-  first-most s [] a = tt
-  first-most s (f ∷ fs) a = also-most (judged s f) (first (judged s) fs) (a .0) (first-most s fs (a .1))
-
-  -- "A sheet handed over in memory is judged for 2 to 8".
-  pub judge-most : (s : Sheet) → 8 ≤ m → NumberMost m (judgeOf s)
-  unfolding judgeOf
-  judge-most s l = first-most s (fieldsOf s) (each-all (λ f. NumberMost m (judged s f)) (record {
-    of-count = when-most (outside 1 16 (s .count)) 2 (omega arith);
-    of-period = λ i k. when-most (outside 1 100000 (T i)) 3 (omega arith);
-    of-budget = λ i k. when-most (outside 1 (T i) (getD (s .tasks) i none .budget)) 4 (omega arith);
-    of-rank = λ i k. when-most (among rank i (rank i)) 5 (omega arith);
-    of-length = when-most (outside 1 (s .count) (s .length)) 6 (omega arith);
-    of-entry = λ i k. also-most (when (leb (s .count) (entry i)) 7) (when (among entry i (entry i)) 8) (when-most (leb (s .count) (entry i)) 7 (omega arith)) (when-most (among entry i (entry i)) 8 (omega arith));
-  }))
-    where
-      T : ℕ → ℕ
-      T i = getD (s .tasks) i none .period
-
-      rank : ℕ → ℕ
-      rank i = getD (s .tasks) i none .rank
-
-      entry : ℕ → ℕ
-      entry i = getD (s .chain) i 0
-
-pub sizes-most : (s : Sheet) → NumberMost 11 (sizesOf s)
+-- "2 to 8", "After that 10, 11",
+pub sizes-numbered : (s : Sheet) → Numbered 2 11 (sizesOf s)
 unfolding sizesOf
-sizes-most s =
-    also-most 11 (judgeOf s) _ (judge-most 11 s (omega arith))
-    (also-most 11 (when long 10) _ (when-most 11 long 10 (omega arith)) (also-most 11 (when many 11) _ (when-most 11 many 11 (omega arith)) tt))
-  where
-    long : Bool
-    long = ltb mostTicks (hyperperiod (tasksOf s))
+sizes-numbered s =
+    also-numbered (numbered-wider (judge-numbered s) (omega arith) (omega arith))
+    (also-numbered (when-numbered (ltb mostTicks (hyperperiod (tasksOf s))) 10 (omega arith) (omega arith))
+    (also-numbered (when-numbered (ltb mostJobs (allJobs (tasksOf s))) 11 (omega arith) (omega arith)) (given-numbered _)))
 
-    many : Bool
-    many = ltb mostJobs (allJobs (tasksOf s))
+-- then "14, 15".
+pub responses-numbered : (s : Sheet) (room : ℕ) → Numbered 2 15 (responsesOf s room)
+unfolding responsesOf
+responses-numbered s room =
+    after-numbered (numbered-wider (sizes-numbered s) (omega arith) (omega arith))
+    (λ size. also-numbered (when-numbered (ltb room (size .jobs)) 14 (omega arith) (omega arith)) (also-numbered (go (lateGreatest (tasksOf s) (length (tasksOf s)))) (given-numbered _)))
+  where
+    go : (x : Slot) → Numbered 2 15 (lateness x)
+    go idle = given-numbered tt
+    go (busy i) = refused-numbered 15 (i ∷ []) (omega arith) (omega arith)
 
 -- H and J
 

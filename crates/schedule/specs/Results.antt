@@ -28,7 +28,7 @@ use Rattle.theory.specs.Responses.{fullBudget, response, jobs}
 use Rattle.theory.specs.Idle.{runs-exactly, idle-adds-up}
 use Rattle.schedule.specs.Answer.{row, rows, tableAfter}
 use Rattle.schedule.specs.Steps.{Holds}
-use Rattle.schedule.specs.Cases.{NumberMost, sizes-most, sizes-fit, Sized, sizes-given, sound-proper, responses-late, responses-full}
+use Rattle.schedule.specs.Cases.{sizes-numbered, sizes-fit, Sized, sizes-given, sound-proper, responses-late, responses-full}
 
 -- When each answer is given
 
@@ -102,7 +102,7 @@ module _ (s : Sheet) (room : ℕ) where
   responses-15 {i} = go (sizesOf s) refl
     where
       go : (x : Answer Size) → sizesOf s ≡ x → after x rest ≡ refused 15 (i ∷ []) → LateWhen s room i
-      go (refused number values) q e = absurd (omega (arith, subst (NumberMost 11) (q ∙ ap (λ n. refused n values) (same e)) (sizes-most s)))
+      go (refused number values) q e = absurd (omega (arith, same e, sizes-numbered s .most q))
         where
           same : _≡_ {A = Answer Totals} (refused number values) (refused 15 (i ∷ [])) → number ≡ 15
           same h = cc

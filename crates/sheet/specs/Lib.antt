@@ -8,6 +8,7 @@ pub mod Steps
 pub mod FieldLaws
 pub mod PlaceLaws
 pub mod AnswerLaws
+pub mod NumberLaws
 pub mod EachLaws
 pub mod FormatLaws
 pub mod RoomLaws

@@ -9,9 +9,9 @@ use Rattle.sheet.specs.Answers.{Answer, given, refused}
 use Rattle.sheet.specs.NumberLaws.{Numbered, given-numbered, numbered-wider, after-numbered, read-numbered, write-numbered}
 use Rattle.schedule.specs.Answer.{responsesOf}
 use Rattle.schedule.specs.Cases.{responses-numbered}
-use Rattle.chain.specs.Answer.{defaultLimit, delayOf, worstOf, boundOf, marginOf, defaultMarginOf}
-use Rattle.chain.specs.Cases.{delay-numbered, worst-numbered, bound-numbered, margin-numbered}
-use Rattle.bellkettle.specs.Answer.{numberOf, alone, signed, totalsNumbers, figureNumbers, answered, countsOf, written}
+use Rattle.chain.specs.Answer.{defaultLimit, delayOf, worstOf, boundOf, marginOf, defaultMarginOf, figuresOf}
+use Rattle.chain.specs.Cases.{delay-numbered, worst-numbered, bound-numbered, margin-numbered, figures-numbered}
+use Rattle.bellkettle.specs.Answer.{numberOf, alone, signed, totalsNumbers, figureNumbers, summaryNumbers, answered, countsOf, written}
 
 -- The number is 0 exactly when the answer is given.
 pub record ZeroWhenGiven (answer : Answer (List ℤ)) : Type 0 where
@@ -49,6 +49,9 @@ module _ (bytes : List ℕ) where
 
   pub default-margin-zero : (room : ℕ) → ZeroWhenGiven (answered bytes (λ s. defaultMarginOf s room) signed)
   default-margin-zero room = margin-zero defaultLimit room
+
+  pub figures-zero : (room : ℕ) → ZeroWhenGiven (answered bytes (λ s. figuresOf s room) summaryNumbers)
+  figures-zero room = answered-zero summaryNumbers (λ s. figures-numbered s room)
 
   pub read-zero : ZeroWhenGiven (answered bytes given countsOf)
   read-zero = answered-zero countsOf given-numbered

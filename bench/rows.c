@@ -1,4 +1,4 @@
-// The table row by row: for each task a walk over the releases of its level with the level's backlog.
+// The table row by row: for each task a walk over the releases of its level, with the tick by which the level's work is done.
 #include "plain.h"
 
 struct level {

@@ -13,7 +13,6 @@ use Rattle.theory.specs.declared.Task.{Task}
 use Rattle.theory.specs.Model.{none, Slot, idle, busy}
 use Rattle.theory.specs.Responses.{hyperperiod, allJobs, idleTicks, Accepted}
 use Rattle.sheet.specs.declared.Sheet.{Sheet}
-use Rattle.sheet.specs.declared.Refusal.{Refusal}
 use Rattle.sheet.specs.Answers.{Answer, given, refused, fine, when, after, also}
 use Rattle.sheet.specs.Calls.{judgeOf}
 use Rattle.sheet.specs.Sound.{judged-sound, when-fine, also-given}

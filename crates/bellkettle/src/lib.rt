@@ -18,7 +18,7 @@ ghost use Prim.Native.Nat.{_≤_, min};
 ghost use lib.IntN.{pos};
 ghost use lib.ListN.{length, getD, set};
 ghost use lib.Seq.{sets};
-ghost use Rattle.theory.specs.Model.{none};
+ghost use Rattle.theory.specs.Model.Schedule.{none};
 ghost use Rattle.sheet.specs.Answers.{given};
 ghost use Rattle.sheet.specs.Calls.{places};
 ghost use Rattle.sheet.specs.Told.{refusal};

@@ -6,9 +6,9 @@ use lib.Dec.{ltb, leb}
 use lib.IntN.{ℤ, pos, _-ℤ_}
 use lib.ListN.{length, getD, take, drop}
 use Rattle.theory.specs.declared.Task.{Task}
-use Rattle.theory.specs.Model.{period}
-use Rattle.theory.specs.Responses.{response, hyperperiod, allJobs, taskResponse}
-use Rattle.theory.specs.Chain.{delay, worst, worstRelease, bound}
+use Rattle.theory.specs.Model.Schedule.{period}
+use Rattle.theory.specs.Model.Responses.{response, hyperperiod, allJobs, taskResponse}
+use Rattle.theory.specs.Model.Chain.{delay, worst, worstRelease, bound}
 use Rattle.sheet.specs.declared.Sheet.{Sheet}
 use Rattle.sheet.specs.Answers.{Answer, given, refused, when, after, also}
 use Rattle.sheet.specs.Told.{refusal}

@@ -10,11 +10,11 @@ use lib.IntN.{ℤ}
 use lib.ListN.{length, length-take, length-drop}
 use borrow.Author.Tests.{ltb-false}
 use Rattle.theory.specs.declared.Task.{Task}
-use Rattle.theory.specs.Ranges.{maximum-least}
-use Rattle.theory.specs.Model.{period, release}
-use Rattle.theory.specs.Responses.{response, hyperperiod, jobs}
-use Rattle.theory.specs.Repetition.{response-period}
-use Rattle.theory.specs.Chain.{delay, worst}
+use Rattle.arith.specs.RangeLaws.{maximum-least}
+use Rattle.theory.specs.Model.Schedule.{period, release}
+use Rattle.theory.specs.Model.Responses.{response, hyperperiod, jobs}
+use Rattle.theory.specs.Analysis.Repetition.{response-period}
+use Rattle.theory.specs.Model.Chain.{delay, worst}
 use Rattle.sheet.specs.declared.Sheet.{Sheet}
 use Rattle.sheet.specs.Answers.{Answer, given, refused, when, after}
 use Rattle.sheet.specs.Sound.{when-fine, also-given}

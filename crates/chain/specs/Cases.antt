@@ -7,8 +7,8 @@ use lib.Dec.{ltb}
 use lib.IntN.{ℤ}
 use borrow.Author.Tests.{lt-ltb, le-ltb, le-leb, lt-leb, ne-eqb}
 use Rattle.theory.specs.declared.Task.{Task}
-use Rattle.theory.specs.Model.{period}
-use Rattle.theory.specs.Responses.{hyperperiod}
+use Rattle.theory.specs.Model.Schedule.{period}
+use Rattle.theory.specs.Model.Responses.{hyperperiod}
 use Rattle.sheet.specs.declared.Sheet.{Sheet}
 use Rattle.sheet.specs.declared.Refusal.{Refusal}
 use Rattle.sheet.specs.declared.Refusal.the-variants.{Number, Late}

@@ -7,9 +7,10 @@ use lib.ListN.{length, getD, set, length-set}
 use lib.Seq.{getD-set-same, getD-set-other}
 use borrow.Author.Count.{below-more}
 use Rattle.theory.specs.declared.Task.{Task}
-use Rattle.theory.specs.Ranges.{sum, sum-grows}
-use Rattle.theory.specs.Model.{none, period, rank}
-use Rattle.theory.specs.Responses.{hyperperiod, jobs, allJobs}
+use Rattle.arith.specs.Ranges.{sum}
+use Rattle.arith.specs.RangeLaws.{sum-grows}
+use Rattle.theory.specs.Model.Schedule.{none, period, rank}
+use Rattle.theory.specs.Model.Responses.{hyperperiod, jobs, allJobs}
 use Rattle.sheet.specs.declared.Sheet.{Sheet}
 use Rattle.schedule.specs.Answer.{mostJobs, tasksOf}
 use Rattle.chain.specs.Steps.{Taken, Column, Gathered}

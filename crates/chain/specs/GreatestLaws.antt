@@ -7,7 +7,8 @@ use native.Mathlib.Decide.{decLt}
 use native.Mathlib.Omega.{arith}
 use lib.Dec.{eqb}
 use borrow.Author.Tests.{eqb-true, eq-eqb}
-use Rattle.theory.specs.Ranges.{maximum, least, maximum-above, least-passes, least-first}
+use Rattle.arith.specs.Ranges.{maximum, least}
+use Rattle.arith.specs.RangeLaws.{maximum-above, least-passes, least-first}
 
 pub maximum-same : (n : ℕ) (f g : ℕ → ℕ) → ((k : ℕ) → k < n → f k ≡ g k) → maximum n f ≡ maximum n g
 unfolding maximum

@@ -8,8 +8,8 @@ use lib.ListN.{length, getD}
 use Rattle.arith.specs.Whole.{up}
 use Rattle.arith.specs.WholeLaws.{gcd-divides-right, gcd-pos, up-near}
 use Rattle.theory.specs.declared.Task.{Task}
-use Rattle.theory.specs.Model.{period}
-use Rattle.theory.specs.Chain.{Chain, outranks, Table, nextRelease, delay, common, bound}
+use Rattle.theory.specs.Model.Schedule.{period}
+use Rattle.theory.specs.Model.Chain.{Chain, outranks, Table, nextRelease, delay, common, bound}
 use Rattle.chain.specs.Answer.{firstOf, restOf}
 use Rattle.chain.specs.Steps.{mostPeriod, mostWait}
 

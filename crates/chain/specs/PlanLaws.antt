@@ -7,13 +7,13 @@ use native.Mathlib.Omega.{arith}
 use lib.Dec.{eqb}
 use lib.ListN.{length, getD}
 use Rattle.theory.specs.declared.Task.{Task}
-use Rattle.theory.specs.Ranges.{sum, maximum, least}
-use Rattle.theory.specs.Model.{period, rank, release}
-use Rattle.theory.specs.Responses.{response, jobs, taskResponse}
-use Rattle.theory.specs.Hyperperiod.{jobs-whole, jobs-positive, jobs-released}
-use Rattle.theory.specs.Repetition.{response-jobs, response-period}
-use Rattle.theory.specs.Chain.{Chain, delay, worst, worstRelease, bound}
-use Rattle.theory.specs.ChainLaws.{chain-head}
+use Rattle.arith.specs.Ranges.{sum, maximum, least}
+use Rattle.theory.specs.Model.Schedule.{period, rank, release}
+use Rattle.theory.specs.Model.Responses.{response, jobs, taskResponse}
+use Rattle.theory.specs.Analysis.Hyperperiod.{jobs-whole, jobs-positive, jobs-released}
+use Rattle.theory.specs.Analysis.Repetition.{response-jobs, response-period}
+use Rattle.theory.specs.Model.Chain.{Chain, delay, worst, worstRelease, bound}
+use Rattle.theory.specs.Analysis.ChainLaws.{chain-head}
 use Rattle.sheet.specs.declared.Sheet.{Sheet}
 use Rattle.schedule.specs.Answer.{mostTicks, tasksOf}
 use Rattle.chain.specs.declared.answer.Figure.{Figure}

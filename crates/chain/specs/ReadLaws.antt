@@ -11,9 +11,10 @@ use lib.Seq.{getD-take, getD-drop}
 use Rattle.arith.specs.Whole.{gcd, up}
 use Rattle.bits.specs.Lists.{getD-listOf}
 use Rattle.theory.specs.declared.Task.{Task}
-use Rattle.theory.specs.Ranges.{maximum, maximum-least}
-use Rattle.theory.specs.Model.{none, period, release, rank}
-use Rattle.theory.specs.Chain.{nextRelease}
+use Rattle.arith.specs.Ranges.{maximum}
+use Rattle.arith.specs.RangeLaws.{maximum-least}
+use Rattle.theory.specs.Model.Schedule.{none, period, release, rank}
+use Rattle.theory.specs.Model.Chain.{nextRelease}
 use Rattle.chain.specs.Steps.{mostPeriod, tasksIn, rowsIn, greatestIn, pairBound, Row, Entry}
 use Rattle.chain.specs.GreatestLaws.{maximum-same}
 

@@ -7,14 +7,14 @@ use native.Mathlib.Omega.{arith}
 use lib.IntN.{ℤ, pos}
 use lib.Signed.{_≤ℤ_, _<ℤ_}
 use Rattle.theory.specs.declared.Task.{Task}
-use Rattle.theory.specs.Model.{period, release, Demands, Within, Run, Schedule}
-use Rattle.theory.specs.Responses.{full, response, hyperperiod}
-use Rattle.theory.specs.Repetition.{response-again}
-use Rattle.theory.specs.Chain.{Chain, delay, worst, bound, PathEnds, Rising}
-use Rattle.theory.specs.ChainLaws.{delay-again}
-use Rattle.theory.specs.Paths.{path-within, path-exists, path-exact}
+use Rattle.theory.specs.Model.Schedule.{period, release, Demands, Within, Run, Schedule}
+use Rattle.theory.specs.Model.Responses.{full, response, hyperperiod}
+use Rattle.theory.specs.Analysis.Repetition.{response-again}
+use Rattle.theory.specs.Model.Chain.{Chain, delay, worst, bound, PathEnds, Rising}
+use Rattle.theory.specs.Analysis.ChainLaws.{delay-again}
+use Rattle.theory.specs.Analysis.Paths.{path-within, path-exists, path-exact}
 use Rattle.theory.specs.Demand3 as demand
-use Rattle.theory.specs.Demand3.{GreatestDelay}
+use Rattle.theory.specs.Results.Demand3.{GreatestDelay}
 use Rattle.sheet.specs.declared.Sheet.{Sheet}
 use Rattle.sheet.specs.Answers.{given}
 use Rattle.schedule.specs.declared.answer.Totals.{Totals}

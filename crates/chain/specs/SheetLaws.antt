@@ -9,11 +9,11 @@ use native.Mathlib.Omega.{arith}
 use lib.ListN.{length, getD, length-take, List·getD-eq-default}
 use lib.Seq.{length-take-le, getD-take}
 use Rattle.theory.specs.declared.Task.{Task}
-use Rattle.theory.specs.Model.{none, period, release, rank, Proper}
-use Rattle.theory.specs.Responses.{hyperperiod, jobs}
-use Rattle.theory.specs.Hyperperiod.{released-jobs}
-use Rattle.theory.specs.Chain.{Chain}
-use Rattle.theory.specs.ChainLaws.{chain-head}
+use Rattle.theory.specs.Model.Schedule.{none, period, release, rank, Proper}
+use Rattle.theory.specs.Model.Responses.{hyperperiod, jobs}
+use Rattle.theory.specs.Analysis.Hyperperiod.{released-jobs}
+use Rattle.theory.specs.Model.Chain.{Chain}
+use Rattle.theory.specs.Analysis.ChainLaws.{chain-head}
 use Rattle.sheet.specs.declared.Sheet.{Sheet}
 use Rattle.sheet.specs.Sound.{Sound}
 use Rattle.schedule.specs.Answer.{tasksOf}

@@ -8,10 +8,10 @@ use lib.ListN.{length, getD, drop}
 use Rattle.arith.specs.Whole.{up}
 use Rattle.bits.specs.Bits.{listOf}
 use Rattle.theory.specs.declared.Task.{Task}
-use Rattle.theory.specs.Ranges.{sum, maximum, least}
-use Rattle.theory.specs.Model.{period, release, rank}
-use Rattle.theory.specs.Responses.{hyperperiod, jobs, allJobs, Accepted}
-use Rattle.theory.specs.Chain.{outranks, Table, nextRelease, delay, common}
+use Rattle.arith.specs.Ranges.{sum, maximum, least}
+use Rattle.theory.specs.Model.Schedule.{period, release, rank}
+use Rattle.theory.specs.Model.Responses.{hyperperiod, jobs, allJobs, Accepted}
+use Rattle.theory.specs.Model.Chain.{outranks, Table, nextRelease, delay, common}
 use Rattle.sheet.specs.declared.Sheet.{Sheet}
 use Rattle.sheet.specs.declared.Refusal.{Refusal}
 use Rattle.sheet.specs.declared.Refusal.the-variants.{Number}

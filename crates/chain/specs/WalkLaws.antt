@@ -8,10 +8,10 @@ use native.Mathlib.Omega.{arith}
 use lib.ListN.{length, getD, take, drop, length-drop}
 use lib.Seq.{take-all, getD-drop}
 use Rattle.theory.specs.declared.Task.{Task}
-use Rattle.theory.specs.Model.{period, release}
+use Rattle.theory.specs.Model.Schedule.{period, release}
 use borrow.Author.Tests.{eq-eqb, ne-eqb}
-use Rattle.theory.specs.Chain.{Table, nextRelease, delay, bound}
-use Rattle.theory.specs.ChainLaws.{next-later}
+use Rattle.theory.specs.Model.Chain.{Table, nextRelease, delay, bound}
+use Rattle.theory.specs.Analysis.ChainLaws.{next-later}
 use Rattle.chain.specs.declared.answer.HandOver.{HandOver}
 use Rattle.chain.specs.Answer.{firstOf, restOf}
 use Rattle.chain.specs.Steps.{mostWait, tasksIn, rowsIn, greatestIn, delayIn, pairBound, onward, ahead, HandedOver, Opened, Entry, Path}

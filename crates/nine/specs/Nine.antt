@@ -6,12 +6,12 @@ use lib.ListN.{length, getD}
 use Rattle.arith.specs.Whole.{gcd, lcm, up}
 use Rattle.bits.specs.Bits.{listOf}
 use Rattle.theory.specs.declared.Task.{Task}
-use Rattle.theory.specs.Model.{none}
-use Rattle.theory.specs.Ranges.{sum, maximum, least}
-use Rattle.theory.specs.Responses.{hyperperiod, allJobs}
-use Rattle.theory.specs.Simulate.{greatest}
-use Rattle.theory.specs.Clearing.{clearing}
-use Rattle.theory.specs.Chain.{worst, worstRelease, bound}
+use Rattle.theory.specs.Model.Schedule.{none}
+use Rattle.arith.specs.Ranges.{sum, maximum, least}
+use Rattle.theory.specs.Model.Responses.{hyperperiod, allJobs}
+use Rattle.theory.specs.Model.Greatest.{greatest}
+use Rattle.theory.specs.Analysis.Clearing.{clearing}
+use Rattle.theory.specs.Model.Chain.{worst, worstRelease, bound}
 use Rattle.sheet.specs.declared.Sheet.{Sheet}
 use Rattle.sheet.specs.Answers.{Answer, given, refused, first}
 use Rattle.sheet.specs.Fields.{taskFields, entryFields, among}

@@ -11,15 +11,15 @@ use lib.Seq.{ext-getD}
 use borrow.Author.Tests.{eq-eqb}
 use Rattle.bits.specs.Lists.{length-listOf, getD-listOf}
 use Rattle.theory.specs.declared.Task.{Task}
-use Rattle.theory.specs.Ranges.{sum-le, sum-const}
-use Rattle.theory.specs.Model.{none, period, budget, rank, need, released, due}
-use Rattle.theory.specs.Responses.{full, response, jobs}
-use Rattle.theory.specs.Work.{due-step, due-jobs}
-use Rattle.theory.specs.Level.{level, level-add, level-le, level-eq}
-use Rattle.theory.specs.Backlog.{load, drain, backlog-unfinished}
-use Rattle.theory.specs.Existence.{full-schedule}
-use Rattle.theory.specs.ResponseLaws.{zero-on-time, first-zero-response, no-zero-late}
-use Rattle.theory.specs.Hyperperiod.{jobs-whole}
+use Rattle.arith.specs.RangeLaws.{sum-le, sum-const}
+use Rattle.theory.specs.Model.Schedule.{none, period, budget, rank, need, released, due}
+use Rattle.theory.specs.Model.Responses.{full, response, jobs}
+use Rattle.theory.specs.Analysis.Work.{due-step, due-jobs}
+use Rattle.theory.specs.Analysis.Level.{level, level-add, level-le, level-eq}
+use Rattle.theory.specs.Analysis.Backlog.{load, drain, backlog-unfinished}
+use Rattle.theory.specs.Analysis.Existence.{full-schedule}
+use Rattle.theory.specs.Analysis.ResponseLaws.{zero-on-time, first-zero-response, no-zero-late}
+use Rattle.theory.specs.Analysis.Hyperperiod.{jobs-whole}
 use Rattle.sheet.specs.declared.Sheet.{Sheet}
 use Rattle.schedule.specs.declared.answer.Row.{Row}
 use Rattle.schedule.specs.declared.answer.Row.the-variants.{Rests, Late}

@@ -8,7 +8,7 @@ use lib.Dec.{eqb}
 use lib.ListN.{length, drop, replicate, take-append-drop}
 use borrow.Author.Tests.{ne-eqb}
 use Rattle.theory.specs.declared.Task.{Task}
-use Rattle.theory.specs.Responses.{allJobs, idleTicks}
+use Rattle.theory.specs.Model.Responses.{allJobs, idleTicks}
 use Rattle.sheet.specs.declared.Sheet.{Sheet}
 use Rattle.sheet.specs.declared.Refusal.{Refusal}
 use Rattle.sheet.specs.declared.Refusal.the-variants.{Number, Late}

@@ -10,13 +10,13 @@ use lib.Dec.{ltb}
 use lib.ListN.{length, getD}
 use borrow.Author.Tests.{lt-ltb, le-ltb}
 use Rattle.theory.specs.declared.Task.{Task}
-use Rattle.theory.specs.Ranges.{sum-eq, below-suc}
-use Rattle.theory.specs.Model.{none, rank, Slot, idle, busy}
-use Rattle.theory.specs.Simulate.{outranking, greatest}
-use Rattle.theory.specs.Responses.{full, hyperperiod, idleTicks}
-use Rattle.theory.specs.Backlog.{load}
-use Rattle.theory.specs.Existence.{full-schedule}
-use Rattle.theory.specs.Idle.{idle-backlog}
+use Rattle.arith.specs.RangeLaws.{sum-eq, below-suc}
+use Rattle.theory.specs.Model.Schedule.{none, rank, Slot, idle, busy}
+use Rattle.theory.specs.Model.Greatest.{outranking, greatest}
+use Rattle.theory.specs.Model.Responses.{full, hyperperiod, idleTicks}
+use Rattle.theory.specs.Analysis.Backlog.{load}
+use Rattle.theory.specs.Analysis.Existence.{full-schedule}
+use Rattle.theory.specs.Analysis.Idle.{idle-backlog}
 use Rattle.sheet.specs.declared.Sheet.{Sheet}
 use Rattle.schedule.specs.Answer.{tasksOf, lateTask, lateGreatest}
 use Rattle.schedule.specs.Steps.{Taken, restsTo, LowestTo, LateTo}

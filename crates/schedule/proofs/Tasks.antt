@@ -14,11 +14,12 @@ use borrow.Author.Count.{below-more}
 use borrow.Author.Tests.{le-leb, lt-leb, lt-ltb, le-ltb, eq-eqb, ne-eqb}
 use Rattle.arith.specs.Whole.{lcm}
 use Rattle.theory.specs.declared.Task.{Task}
-use Rattle.theory.specs.Ranges.{sum, sum-add, sum-eq, sum-le, sum-const, sum-point, sum-grows}
-use Rattle.theory.specs.Model.{none, period, budget, rank}
-use Rattle.theory.specs.Responses.{hyperperiod, jobs, allJobs}
-use Rattle.theory.specs.Hyperperiod.{hyperperiod-multiple, hyperperiod-least, hyperperiod-positive}
-use Rattle.theory.specs.Level.{level}
+use Rattle.arith.specs.Ranges.{sum}
+use Rattle.arith.specs.RangeLaws.{sum-add, sum-eq, sum-le, sum-const, sum-point, sum-grows}
+use Rattle.theory.specs.Model.Schedule.{none, period, budget, rank}
+use Rattle.theory.specs.Model.Responses.{hyperperiod, jobs, allJobs}
+use Rattle.theory.specs.Analysis.Hyperperiod.{hyperperiod-multiple, hyperperiod-least, hyperperiod-positive}
+use Rattle.theory.specs.Analysis.Level.{level}
 use Rattle.sheet.specs.declared.Sheet.{Sheet}
 use Rattle.schedule.specs.Answer.{mostTicks, tasksOf}
 use Rattle.schedule.specs.Cases.{sound-proper}

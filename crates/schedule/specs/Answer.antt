@@ -6,10 +6,10 @@ use lib.Dec.{ltb, eqb}
 use lib.ListN.{length, take, drop, replicate}
 use Rattle.bits.specs.Bits.{listOf}
 use Rattle.theory.specs.declared.Task.{Task}
-use Rattle.theory.specs.Ranges.{least}
-use Rattle.theory.specs.Model.{rank, need, release, Slot, idle, busy, done}
-use Rattle.theory.specs.Simulate.{greatest}
-use Rattle.theory.specs.Responses.{full, fullBudget, response, hyperperiod, jobs, allJobs, idleTicks, taskResponse}
+use Rattle.arith.specs.Ranges.{least}
+use Rattle.theory.specs.Model.Schedule.{rank, need, release, Slot, idle, busy, done}
+use Rattle.theory.specs.Model.Greatest.{greatest}
+use Rattle.theory.specs.Model.Responses.{full, fullBudget, response, hyperperiod, jobs, allJobs, idleTicks, taskResponse}
 use Rattle.sheet.specs.declared.Sheet.{Sheet}
 use Rattle.sheet.specs.Answers.{Answer, given, refused, Judgement, fine, when, after, also}
 use Rattle.sheet.specs.Calls.{places, judgeOf}

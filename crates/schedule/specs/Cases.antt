@@ -7,8 +7,8 @@ use lib.Dec.{ltb}
 use lib.ListN.{length, getD, length-take}
 use lib.Seq.{getD-take}
 use borrow.Author.Tests.{ltb-false, lt-ltb, le-ltb}
-use Rattle.theory.specs.Model.{none, Proper, Slot, idle, busy}
-use Rattle.theory.specs.Responses.{hyperperiod, allJobs, idleTicks}
+use Rattle.theory.specs.Model.Schedule.{none, Proper, Slot, idle, busy}
+use Rattle.theory.specs.Model.Responses.{hyperperiod, allJobs, idleTicks}
 use Rattle.sheet.specs.declared.Sheet.{Sheet}
 use Rattle.sheet.specs.declared.Refusal.{Refusal}
 use Rattle.sheet.specs.declared.Refusal.the-variants.{Number, Late}

@@ -10,8 +10,8 @@ use lib.ListN.{length, getD, drop, length-append, List·getD-append}
 use lib.Seq.{getD-append-add}
 use borrow.Author.Tests.{ltb-false}
 use Rattle.theory.specs.declared.Task.{Task}
-use Rattle.theory.specs.Model.{none, Slot, idle, busy}
-use Rattle.theory.specs.Responses.{hyperperiod, allJobs, idleTicks, Accepted}
+use Rattle.theory.specs.Model.Schedule.{none, Slot, idle, busy}
+use Rattle.theory.specs.Model.Responses.{hyperperiod, allJobs, idleTicks, Accepted}
 use Rattle.sheet.specs.declared.Sheet.{Sheet}
 use Rattle.sheet.specs.Answers.{Answer, given, refused, fine, when, after, also}
 use Rattle.sheet.specs.Calls.{judgeOf}
@@ -21,10 +21,11 @@ use Rattle.schedule.specs.declared.answer.Size.{Size}
 use Rattle.schedule.specs.Answer.{mostTicks, mostJobs, tasksOf, lateGreatest, lateness, sizesOf, responsesOf}
 use Rattle.schedule.specs.Lateness.{GreatestLate, idle-accepted, busy-greatest, accepted-idle, greatest-busy}
 use Rattle.bits.specs.Lists.{length-listOf, getD-listOf}
-use Rattle.theory.specs.Ranges.{sum, sum-grows}
-use Rattle.theory.specs.Model.{period, budget, done}
-use Rattle.theory.specs.Responses.{fullBudget, response, jobs}
-use Rattle.theory.specs.Idle.{runs-exactly, idle-adds-up}
+use Rattle.arith.specs.Ranges.{sum}
+use Rattle.arith.specs.RangeLaws.{sum-grows}
+use Rattle.theory.specs.Model.Schedule.{period, budget, done}
+use Rattle.theory.specs.Model.Responses.{fullBudget, response, jobs}
+use Rattle.theory.specs.Analysis.Idle.{runs-exactly, idle-adds-up}
 use Rattle.schedule.specs.Answer.{row, rows, tableAfter}
 use Rattle.schedule.specs.Steps.{Holds}
 use Rattle.schedule.specs.Cases.{sizes-numbered, sizes-fit, Sized, sizes-given, sound-proper, responses-late, responses-full}

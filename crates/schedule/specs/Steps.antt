@@ -7,12 +7,12 @@ use lib.Dec.{eqb}
 use lib.ListN.{length, getD, take, drop}
 use Rattle.arith.specs.Whole.{up}
 use Rattle.theory.specs.declared.Task.{Task}
-use Rattle.theory.specs.Ranges.{sum}
-use Rattle.theory.specs.Model.{none, period, budget, rank, idle, busy}
-use Rattle.theory.specs.Responses.{full, response, hyperperiod, jobs, allJobs}
-use Rattle.theory.specs.Level.{level}
-use Rattle.theory.specs.Backlog.{load, drain}
-use Rattle.theory.specs.Finish.{FirstZero}
+use Rattle.arith.specs.Ranges.{sum}
+use Rattle.theory.specs.Model.Schedule.{none, period, budget, rank, idle, busy}
+use Rattle.theory.specs.Model.Responses.{full, response, hyperperiod, jobs, allJobs}
+use Rattle.theory.specs.Analysis.Level.{level}
+use Rattle.theory.specs.Analysis.Backlog.{load, drain}
+use Rattle.theory.specs.Analysis.Finish.{FirstZero}
 use Rattle.sheet.specs.declared.Sheet.{Sheet}
 use Rattle.sheet.specs.declared.Refusal.{Refusal}
 use Rattle.sheet.specs.declared.Refusal.the-variants.{Number, Late}

@@ -12,7 +12,7 @@ use borrow.Author.Tests.{ltb-false, lt-ltb, le-ltb}
 use Rattle.bits.specs.Bits.{bits, unpack, bytesFor, number}
 use Rattle.bits.specs.Laws.{number-same}
 use Rattle.bits.specs.Bytes.{bitAt, getD-unpack}
-use Rattle.theory.specs.Model.{none}
+use Rattle.theory.specs.Model.Schedule.{none}
 use Rattle.sheet.specs.declared.Sheet.{Sheet}
 use Rattle.sheet.specs.declared.Field.{Field}
 use Rattle.sheet.specs.declared.Field.the-variants.{Count, Period, Budget, Rank, Length, Entry}

@@ -13,7 +13,7 @@ use Rattle.bits.specs.Bits.{bits, unpack, number, bytesFor, bytesOf}
 use Rattle.bits.specs.Laws.{number-lt, number-same, number-zero, zero-number}
 use Rattle.bits.specs.Bytes.{Bytes, bitAt, bytes-same, length-bytesOf, bytesOf-bytes, bitAt-bytesOf}
 use Rattle.theory.specs.declared.Task.{Task}
-use Rattle.theory.specs.Model.{none}
+use Rattle.theory.specs.Model.Schedule.{none}
 use Rattle.sheet.specs.declared.Sheet.{Sheet}
 use Rattle.sheet.specs.declared.Field.{Field}
 use Rattle.sheet.specs.declared.Field.the-variants.{Count, Rank, Length, Entry}

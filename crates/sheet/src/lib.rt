@@ -7,7 +7,7 @@ ghost use Prim.Native.Nat.{_*_, _<_, _≤_, min};
 ghost use lib.ListN.{length, getD};
 ghost use lib.Seq.{sets};
 ghost use Rattle.bits.specs.Bits.{unpack};
-ghost use Rattle.theory.specs.Model.{none};
+ghost use Rattle.theory.specs.Model.Schedule.{none};
 ghost use Rattle.sheet.specs.Answers.{when, first};
 ghost use Rattle.sheet.specs.Fields.{width, place, value, outside, among, judged};
 ghost use Rattle.sheet.specs.Steps.{opening, next, index, nth};

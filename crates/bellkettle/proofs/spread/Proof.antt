@@ -5,7 +5,7 @@ use native.Mathlib.Omega.{arith}
 use lib.ListN.{length, getD, set}
 use lib.Seq.{sets, length-sets}
 use Rattle.bits.specs.Bits.{listOf}
-use Rattle.theory.specs.Model.{none}
+use Rattle.theory.specs.Model.Schedule.{none}
 use Rattle.bellkettle.specs.Endings.{sets-more}
 use borrow.Author.Needs.{needs}
 use Rattle.bellkettle.proofs.spread.Statement.{statement}

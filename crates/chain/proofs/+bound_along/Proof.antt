@@ -8,7 +8,7 @@ use borrow.Fn.Kinds.{In}
 use borrow.Fn.PlainCycle.{Measures, is, falls, and}
 use borrow.Author.Needs.{needs}
 use Rattle.theory.specs.declared.Task.{Task}
-use Rattle.theory.specs.Chain.{bound}
+use Rattle.theory.specs.Model.Chain.{bound}
 use Rattle.chain.specs.Answer.{firstOf, restOf}
 use Rattle.chain.specs.Steps.{mostWait, tasksIn, greatestIn, Path}
 use Rattle.chain.specs.Largest.{pair-most}

@@ -9,8 +9,8 @@ use borrow.Fn.Kinds.{In}
 use borrow.Fn.PlainCycle.{Measures, is, falls, and}
 use borrow.Author.Needs.{needs}
 use Rattle.theory.specs.declared.Task.{Task}
-use Rattle.theory.specs.Model.{release}
-use Rattle.theory.specs.Chain.{Table, delay}
+use Rattle.theory.specs.Model.Schedule.{release}
+use Rattle.theory.specs.Model.Chain.{Table, delay}
 use Rattle.chain.specs.Answer.{firstOf, restOf}
 use Rattle.chain.specs.Steps.{mostWait, tasksIn, rowsIn, Path}
 use Rattle.chain.specs.Largest.{next-most}

@@ -4,8 +4,8 @@ use Prim.Native.Nat.{_*_, _/_, _%_, _≤_, _<_}
 use native.Mathlib.Omega.{arith}
 use lib.ListN.{length}
 use borrow.Author.Needs.{needs}
-use Rattle.theory.specs.Model.{period}
-use Rattle.theory.specs.Responses.{hyperperiod}
+use Rattle.theory.specs.Model.Schedule.{period}
+use Rattle.theory.specs.Model.Responses.{hyperperiod}
 use Rattle.sheet.specs.Answers.{given, after}
 use Rattle.sheet.specs.Sound.{Sound, judged-sound}
 use Rattle.sheet.specs.Told.{refusal}

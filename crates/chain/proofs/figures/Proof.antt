@@ -5,7 +5,7 @@ use lib.ListN.{length}
 use mir.Syntax.{w32}
 use mir.ValLaws.{toZ-ofZ}
 use borrow.Author.Needs.{needs}
-use Rattle.theory.specs.Responses.{hyperperiod}
+use Rattle.theory.specs.Model.Responses.{hyperperiod}
 use Rattle.sheet.specs.Answers.{given}
 use Rattle.sheet.specs.Told.{refusal}
 use Rattle.schedule.specs.Answer.{tasksOf, responsesOf, toldTotals}

@@ -4,7 +4,7 @@ use Prim.Native.Nat.{_<_}
 use native.Mathlib.Omega.{arith}
 use lib.ListN.{getD}
 use lib.Seq.{getD-take}
-use Rattle.theory.specs.Model.{period}
+use Rattle.theory.specs.Model.Schedule.{period}
 use Rattle.schedule.specs.Answer.{tasksOf}
 use Rattle.chain.specs.SheetLaws.{period-at}
 use borrow.Author.Needs.{needs}

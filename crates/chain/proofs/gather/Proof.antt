@@ -3,8 +3,8 @@ use mathlib.Core.Path.{_≡_, refl, ap₂, subst}
 use Prim.Native.Nat.{_+_, _-_, _≤_, _<_}
 use native.Mathlib.Numerals.{add-one}
 use native.Mathlib.Omega.{arith}
-use Rattle.theory.specs.Ranges.{sum}
-use Rattle.theory.specs.Responses.{jobs}
+use Rattle.arith.specs.Ranges.{sum}
+use Rattle.theory.specs.Model.Responses.{jobs}
 use Rattle.schedule.specs.Answer.{tasksOf}
 use Rattle.chain.specs.Steps.{Gathered}
 use Rattle.chain.specs.GatherLaws.{gathered-none, gathered-more, jobs-at, row-few}

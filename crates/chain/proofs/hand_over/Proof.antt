@@ -10,8 +10,8 @@ use borrow.Author.Tests.{lt-ltb, le-ltb}
 use borrow.Author.Needs.{needs}
 use Rattle.arith.specs.Whole.{up}
 use Rattle.arith.specs.WholeLaws.{up-above, up-near}
-use Rattle.theory.specs.Model.{release}
-use Rattle.theory.specs.Chain.{nextRelease}
+use Rattle.theory.specs.Model.Schedule.{release}
+use Rattle.theory.specs.Model.Chain.{nextRelease}
 use Rattle.chain.specs.Steps.{mostPeriod, mostWait, mostRelease, tasksIn, rowsIn}
 use Rattle.chain.specs.ReadLaws.{release-in, row-most, next-in}
 use Rattle.chain.proofs.hand_over.Statement.{statement}

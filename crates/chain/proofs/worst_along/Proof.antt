@@ -7,7 +7,7 @@ use native.Mathlib.Nat.{le-refl, le-trans, mul-le-mul, mul-le-mul-right}
 use native.Mathlib.Omega.{arith}
 use lib.ListN.{length, getD, take, drop}
 use borrow.Author.Needs.{needs}
-use Rattle.theory.specs.Model.{release}
+use Rattle.theory.specs.Model.Schedule.{release}
 use Rattle.schedule.specs.Answer.{mostTicks}
 use Rattle.chain.specs.Answer.{firstOf}
 use Rattle.chain.specs.Steps.{mostWait, tasksIn, delayIn, ahead, Entry, Path}

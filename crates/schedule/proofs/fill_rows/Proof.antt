@@ -1,15 +1,15 @@
 -- Row by row the part of the table that belongs to the task is lent to its walk, straight after the rows before it.
 use native.Mathlib.Nat.{div-le-self}
-use Rattle.theory.specs.Simulate.{greatest}
+use Rattle.theory.specs.Model.Greatest.{greatest}
 use Rattle.schedule.specs.Answer.{rows}
 use mathlib.Core.Path.{_≡_, refl, sym, ap, _∙_, subst}
 use Prim.Native.Nat.{_+_, _-_, _/_, _≤_, _<_}
 use native.Mathlib.Numerals.{add-one}
 use native.Mathlib.Omega.{arith}
 use lib.ListN.{length, getD}
-use Rattle.theory.specs.Model.{none}
-use Rattle.theory.specs.Ranges.{sum}
-use Rattle.theory.specs.Responses.{jobs, allJobs}
+use Rattle.theory.specs.Model.Schedule.{none}
+use Rattle.arith.specs.Ranges.{sum}
+use Rattle.theory.specs.Model.Responses.{jobs, allJobs}
 use Rattle.schedule.specs.Answer.{tasksOf}
 use Rattle.schedule.specs.Steps.{Filled}
 use Rattle.schedule.proofs.Tasks.{jobs-at, jobs-next, jobs-most, jobs-within, all-jobs}

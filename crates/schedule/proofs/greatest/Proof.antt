@@ -5,7 +5,7 @@ use Prim.Native.Nat.{_-_, _≤_}
 use native.Mathlib.Numerals.{add-one}
 use native.Mathlib.Omega.{arith}
 use lib.ListN.{length, getD}
-use Rattle.theory.specs.Ranges.{maximum}
+use Rattle.arith.specs.Ranges.{maximum}
 use borrow.Author.Needs.{needs}
 use Rattle.schedule.proofs.greatest.Statement.{statement}
 use Rattle.schedule.proofs.greatest.Tie as tie

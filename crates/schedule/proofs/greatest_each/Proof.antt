@@ -7,10 +7,10 @@ use native.Mathlib.Omega.{arith}
 use lib.ListN.{length, getD, take, drop, set}
 use lib.Seq.{getD-take, getD-drop}
 use Rattle.bits.specs.Bits.{listOf}
-use Rattle.theory.specs.Ranges.{sum, maximum}
+use Rattle.arith.specs.Ranges.{sum, maximum}
 use Rattle.theory.specs.declared.Task.{Task}
-use Rattle.theory.specs.Model.{none}
-use Rattle.theory.specs.Responses.{response, jobs, taskResponse}
+use Rattle.theory.specs.Model.Schedule.{none}
+use Rattle.theory.specs.Model.Responses.{response, jobs, taskResponse}
 use Rattle.sheet.specs.Calls.{places}
 use Rattle.sheet.specs.PlaceLaws.{places-set}
 use Rattle.schedule.specs.Answer.{tasksOf}

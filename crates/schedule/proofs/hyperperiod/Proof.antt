@@ -5,7 +5,7 @@ use native.Mathlib.Omega.{arith}
 use mathlib.Core.Path.{_≡_, sym, ap, _∙_}
 use Prim.Native.Nat.{_-_, _≤_}
 use lib.ListN.{drop}
-use Rattle.theory.specs.Responses.{hyperperiod}
+use Rattle.theory.specs.Model.Responses.{hyperperiod}
 use Rattle.schedule.specs.Answer.{mostTicks, tasksOf}
 use Rattle.schedule.proofs.Tasks.{multiple-start, multiple-step, multiple-most}
 use borrow.Author.Needs.{needs}

@@ -2,8 +2,8 @@
 use native.Mathlib.Omega.{arith}
 use mathlib.Core.Path.{_≡_, refl, sym, ap, _∙_}
 use Prim.Native.Nat.{_+_, _-_, _≤_}
-use Rattle.theory.specs.Ranges.{sum}
-use Rattle.theory.specs.Responses.{jobs as jobsOf}
+use Rattle.arith.specs.Ranges.{sum}
+use Rattle.theory.specs.Model.Responses.{jobs as jobsOf}
 use Rattle.schedule.specs.Answer.{tasksOf}
 use Rattle.schedule.proofs.Tasks.{jobs-next, jobs-most, all-jobs}
 use borrow.Author.Needs.{needs}

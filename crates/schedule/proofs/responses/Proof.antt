@@ -1,5 +1,5 @@
 -- The judgements come in document 01's order; the rows stand in the table unless a task is late, and then zeros do.
-use Rattle.theory.specs.Responses.{allJobs}
+use Rattle.theory.specs.Model.Responses.{allJobs}
 use mathlib.Core.Path.{_≡_, sym, ap, _∙_, subst}
 use native.Mathlib.Omega.{arith}
 use lib.ListN.{length-map}

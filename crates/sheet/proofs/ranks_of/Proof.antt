@@ -5,7 +5,7 @@ use native.Mathlib.Omega.{arith}
 use native.Mathlib.Decide.{decLt}
 use lib.ListN.{length, set, length-map, List·getD-eq-default}
 use Rattle.bits.specs.Bits.{listOf}
-use Rattle.theory.specs.Model.{none}
+use Rattle.theory.specs.Model.Schedule.{none}
 use Rattle.sheet.specs.declared.Sheet.{Sheet}
 use Rattle.sheet.specs.declared.Field.the-variants.{Rank}
 use Rattle.sheet.specs.Fields.{value}

@@ -4,7 +4,7 @@ use Prim.Native.Nat.{ℕ}
 use native.Mathlib.Omega.{arith}
 use Rattle.bits.specs.Bits.{unpack}
 use Rattle.bits.specs.Laws.{number-lt}
-use Rattle.theory.specs.Model.{none}
+use Rattle.theory.specs.Model.Schedule.{none}
 use Rattle.sheet.specs.declared.Field.the-variants.{Count, Length}
 use Rattle.sheet.specs.Fields.{place}
 use Rattle.sheet.specs.Calls.{places, spelt, taskSpelt, entrySpelt, sheetSpelt, sheetOf}

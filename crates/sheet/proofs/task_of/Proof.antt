@@ -2,7 +2,7 @@
 use mathlib.Core.Path.{_≡_, refl, sym, _∙_}
 use native.Mathlib.Omega.{arith}
 use lib.ListN.{length, length-map, List·getD-eq-default}
-use Rattle.theory.specs.Model.{none}
+use Rattle.theory.specs.Model.Schedule.{none}
 use borrow.Author.Needs.{needs}
 use Rattle.sheet.proofs.task_of.Statement.{statement}
 use Rattle.sheet.proofs.task_of.Tie as tie

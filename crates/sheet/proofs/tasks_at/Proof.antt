@@ -4,7 +4,7 @@ use Prim.Native.Nat.{_-_, _≤_, min}
 use native.Mathlib.Omega.{arith}
 use lib.ListN.{set}
 use Rattle.bits.specs.Bits.{unpack, listOf}
-use Rattle.theory.specs.Model.{none}
+use Rattle.theory.specs.Model.Schedule.{none}
 use Rattle.sheet.specs.Calls.{places, taskSpelt}
 use Rattle.sheet.specs.PlaceLaws.{places-set, places-most}
 use borrow.Author.Needs.{needs}

@@ -10,8 +10,9 @@ use native.Mathlib.Decide.{ℕ-discrete}
 use lib.Dec.{eqb}
 use borrow.Author.Tests.{eqb-true, eq-eqb, ne-eqb}
 use Rattle.theory.specs.declared.Task.{Task}
-use Rattle.theory.specs.Model.{period, release, Demands, need, released, due, Slot, idle, busy, Run, runs, done}
-use Rattle.theory.specs.Ranges.{sum, sum-grows}
+use Rattle.theory.specs.Model.Schedule.{period, release, Demands, need, released, due, Slot, idle, busy, Run, runs, done}
+use Rattle.arith.specs.Ranges.{sum}
+use Rattle.arith.specs.RangeLaws.{sum-grows}
 
 -- One tick's share
 

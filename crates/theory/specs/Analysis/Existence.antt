@@ -9,11 +9,13 @@ use lib.Dec.{ltb}
 use lib.ListN.{length}
 use borrow.Author.Tests.{ltb-true, ltb-false, lt-ltb}
 use Rattle.theory.specs.declared.Task.{Task}
-use Rattle.theory.specs.Model.{rank, Proper, Demands, due, Slot, idle, busy, Run, runs, done, Pending, Schedule}
-use Rattle.theory.specs.Work.{due-demands}
-use Rattle.theory.specs.Responses.{full, fullBudget}
-use Rattle.theory.specs.Simulate.{outranking, greatest, choice, ticks, simulate}
-use Rattle.theory.specs.Ranges.{sum, below-suc}
+use Rattle.theory.specs.Model.Schedule.{rank, Proper, Demands, due, Slot, idle, busy, Run, runs, done, Pending, Schedule}
+use Rattle.theory.specs.Analysis.Work.{due-demands}
+use Rattle.theory.specs.Model.Responses.{full, fullBudget}
+use Rattle.theory.specs.Model.Greatest.{outranking, greatest}
+use Rattle.theory.specs.Model.Simulate.{choice, ticks, simulate}
+use Rattle.arith.specs.Ranges.{sum}
+use Rattle.arith.specs.RangeLaws.{below-suc}
 
 -- The slot holds the task below n of greatest rank that passes the test, or is idle where none does.
 IsGreatest : (ℕ → ℕ) → (ℕ → Bool) → ℕ → Slot → Type 0

@@ -1,21 +1,11 @@
 -- The run that follows the rule from tick 0 on, as a function that computes. `Existence` shows that it is the only schedule.
 use mathlib.Core.List.{List}
-use mathlib.Core.Bool.{Bool, cond}
 use Prim.Native.Nat.{ℕ, zero, suc, _+_}
 use lib.Dec.{ltb}
 use lib.ListN.{length}
 use Rattle.theory.specs.declared.Task.{Task}
-use Rattle.theory.specs.Model.{rank, Demands, due, Slot, idle, busy, Run, runs}
-
--- Task i, or the slot's task if that has no smaller rank.
-abbrev pub outranking : (ℕ → ℕ) → ℕ → Slot → Slot
-outranking rank i idle = busy i
-outranking rank i (busy j) = cond (ltb (rank j) (rank i)) (busy i) (busy j)
-
--- Of the tasks 0 .. n - 1 that pass the test, the one of greatest rank.
-unfoldable pub greatest : (ℕ → ℕ) → (ℕ → Bool) → ℕ → Slot
-greatest rank test zero = idle
-greatest rank test (suc n) = cond (test n) (outranking rank n (greatest rank test n)) (greatest rank test n)
+use Rattle.theory.specs.Model.Schedule.{rank, Demands, due, Slot, Run, runs}
+use Rattle.theory.specs.Model.Greatest.{greatest}
 
 -- "At each tick the processor runs the released, unfinished job of greatest rank": what runs at t after the ticks counted in ran.
 unfoldable pub choice : List Task → Demands → ℕ → (ℕ → ℕ) → Slot

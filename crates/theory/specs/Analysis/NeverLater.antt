@@ -7,12 +7,12 @@ use native.Mathlib.Omega.{arith}
 use native.Mathlib.Decide.{ℕ-discrete}
 use lib.ListN.{length}
 use Rattle.theory.specs.declared.Task.{Task}
-use Rattle.theory.specs.Model.{period, release, Proper, Demands, Within, need, Run, done, Schedule, Starts, Finishes}
-use Rattle.theory.specs.Responses.{full, response, Accepted}
-use Rattle.theory.specs.Backlog.{fullBacklog, backlog, backlog-mono}
-use Rattle.theory.specs.Finish.{FirstZero, done-starts, done-finishes, finish-least, finish-unique, zero-done}
-use Rattle.theory.specs.ResponseLaws.{response-first-zero, response-finishes}
-use Rattle.theory.specs.Repetition.{never-late, response-period}
+use Rattle.theory.specs.Model.Schedule.{period, release, Proper, Demands, Within, need, Run, done, Schedule, Starts, Finishes}
+use Rattle.theory.specs.Model.Responses.{full, response, Accepted}
+use Rattle.theory.specs.Analysis.Backlog.{fullBacklog, backlog, backlog-mono}
+use Rattle.theory.specs.Analysis.Finish.{FirstZero, done-starts, done-finishes, finish-least, finish-unique, zero-done}
+use Rattle.theory.specs.Analysis.ResponseLaws.{response-first-zero, response-finishes}
+use Rattle.theory.specs.Analysis.Repetition.{never-late, response-period}
 
 -- Full budgets are demands from 1 to C.
 pub full-within : {ts : List Task} → Proper ts → Within ts (full ts)

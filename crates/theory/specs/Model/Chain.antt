@@ -8,9 +8,9 @@ use lib.Dec.{ltb, eqb}
 use lib.ListN.{length}
 use Rattle.arith.specs.Whole.{gcd, up}
 use Rattle.theory.specs.declared.Task.{Task}
-use Rattle.theory.specs.Ranges.{maximum, least}
-use Rattle.theory.specs.Model.{period, release, rank, Demands, Run, Starts, Finishes}
-use Rattle.theory.specs.Responses.{hyperperiod, jobs}
+use Rattle.arith.specs.Ranges.{maximum, least}
+use Rattle.theory.specs.Model.Schedule.{period, release, rank, Demands, Run, Starts, Finishes}
+use Rattle.theory.specs.Model.Responses.{hyperperiod, jobs}
 
 -- The entries of a chain are tasks of the list, and neighbours differ (on a sheet no entry stands twice).
 abbrev pub Chain : List Task → ℕ → List ℕ → Type 0

@@ -8,9 +8,10 @@ use lib.Dec.{leb}
 use lib.ListN.{length}
 use borrow.Author.Tests.{leb-true, le-leb}
 use Rattle.theory.specs.declared.Task.{Task}
-use Rattle.theory.specs.Ranges.{sum, sum-add, sum-le, sum-eq, sum-zero, sum-point, sum-tight}
-use Rattle.theory.specs.Model.{rank, busy, runs}
-use Rattle.theory.specs.Work.{runs-self, runs-other}
+use Rattle.arith.specs.Ranges.{sum}
+use Rattle.arith.specs.RangeLaws.{sum-add, sum-le, sum-eq, sum-zero, sum-point, sum-tight}
+use Rattle.theory.specs.Model.Schedule.{rank, busy, runs}
+use Rattle.theory.specs.Analysis.Work.{runs-self, runs-other}
 
 -- Task j is of the level of task i where its rank is at least i's.
 abbrev inLevel : List Task → ℕ → ℕ → Bool

@@ -7,8 +7,8 @@ use native.Mathlib.Omega.{arith}
 use lib.ListN.{length}
 use Rattle.arith.specs.WholeLaws.{lcm-divides-left, lcm-divides-right, lcm-least, lcm-pos}
 use Rattle.theory.specs.declared.Task.{Task}
-use Rattle.theory.specs.Model.{period, release, Proper}
-use Rattle.theory.specs.Responses.{hyperperiod, jobs}
+use Rattle.theory.specs.Model.Schedule.{period, release, Proper}
+use Rattle.theory.specs.Model.Responses.{hyperperiod, jobs}
 
 pub hyperperiod-multiple : (ts : List Task) (i : ℕ) → i < length ts → period ts i ∣ hyperperiod ts
 unfolding hyperperiod

@@ -7,9 +7,9 @@ use native.Mathlib.Omega.{arith}
 use native.Mathlib.Decide.{ℕ-discrete}
 use lib.ListN.{length}
 use Rattle.theory.specs.declared.Task.{Task}
-use Rattle.theory.specs.Model.{release, rank, Proper, Demands, need, due, Run, done, Pending, Schedule, Starts, Finishes}
-use Rattle.theory.specs.Work.{done-busy, done-grows, done-passes, need-step, due-covers, due-most}
-use Rattle.theory.specs.Backlog.{backlog, backlog-empty, empty-backlog}
+use Rattle.theory.specs.Model.Schedule.{release, rank, Proper, Demands, need, due, Run, done, Pending, Schedule, Starts, Finishes}
+use Rattle.theory.specs.Analysis.Work.{done-busy, done-grows, done-passes, need-step, due-covers, due-most}
+use Rattle.theory.specs.Analysis.Backlog.{backlog, backlog-empty, empty-backlog}
 
 -- After tick r the function f is first 0 at z.
 pub record FirstZero (f : ℕ → ℕ) (r z : ℕ) : Type 0 where

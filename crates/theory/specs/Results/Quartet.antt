@@ -6,17 +6,17 @@ use Prim.Native.Nat.{ℕ, suc, _+_, _*_, _/_, _%_, _<_}
 use native.Mathlib.Nat.{div-add-mod', mod-lt, mod-one}
 use native.Mathlib.Omega.{arith}
 use native.Mathlib.Decide.{ℕ-discrete}
-use Rattle.theory.specs.Ranges.{sum-eq}
-use Rattle.theory.specs.Model.{release, budget, Demands, Within, need, busy, Run, Schedule, Starts, Finishes}
-use Rattle.theory.specs.Responses.{full, fullBudget, response, hyperperiod}
-use Rattle.theory.specs.Work.{done-busy, need-step}
-use Rattle.theory.specs.Finish.{start-unique}
-use Rattle.theory.specs.Existence.{schedule-unique, schedule-same}
-use Rattle.theory.specs.ResponseLaws.{response-finishes}
-use Rattle.theory.specs.Repetition.{never-late, response-jobs}
-use Rattle.theory.specs.Evaluation.{decided, all?}
-use Rattle.theory.specs.Examples.{quartet, quartet-accepted, quartet-rows}
-use Rattle.theory.specs.Chain.{HandOver, PathEnds}
+use Rattle.arith.specs.RangeLaws.{sum-eq}
+use Rattle.theory.specs.Model.Schedule.{release, budget, Demands, Within, need, busy, Run, Schedule, Starts, Finishes}
+use Rattle.theory.specs.Model.Responses.{full, fullBudget, response, hyperperiod}
+use Rattle.theory.specs.Analysis.Work.{done-busy, need-step}
+use Rattle.theory.specs.Analysis.Finish.{start-unique}
+use Rattle.theory.specs.Analysis.Existence.{schedule-unique, schedule-same}
+use Rattle.theory.specs.Analysis.ResponseLaws.{response-finishes}
+use Rattle.theory.specs.Analysis.Repetition.{never-late, response-jobs}
+use Rattle.theory.specs.Analysis.Evaluation.{decided, all?}
+use Rattle.theory.specs.Results.Examples.{quartet, quartet-accepted, quartet-rows}
+use Rattle.theory.specs.Model.Chain.{HandOver, PathEnds}
 
 -- The responses of the chain's two tasks: 3 and 1 in turn, and 5.
 response-two : (k : ℕ) → response quartet 2 k + k % 2 * 2 ≡ 3

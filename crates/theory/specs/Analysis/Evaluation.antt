@@ -9,13 +9,14 @@ use native.Mathlib.Decide.{ℕ-discrete, decLe, decLt}
 use lib.Dec.{T}
 use lib.ListN.{length, getD}
 use Rattle.theory.specs.declared.Task.{Task}
-use Rattle.theory.specs.Ranges.{maximum, below-suc}
-use Rattle.theory.specs.Model.{period, budget, rank, Proper}
-use Rattle.theory.specs.Responses.{response, hyperperiod, jobs, taskResponse, Accepted}
-use Rattle.theory.specs.Hyperperiod.{released-jobs}
-use Rattle.theory.specs.Clearing.{clearing, response-clearing, late-clearing}
-use Rattle.theory.specs.Chain.{Chain, delay, worst, worstRelease, bound}
-use Rattle.theory.specs.ChainLaws.{delay-same, worst-same, worst-release-same, bound-same}
+use Rattle.arith.specs.Ranges.{maximum}
+use Rattle.arith.specs.RangeLaws.{below-suc}
+use Rattle.theory.specs.Model.Schedule.{period, budget, rank, Proper}
+use Rattle.theory.specs.Model.Responses.{response, hyperperiod, jobs, taskResponse, Accepted}
+use Rattle.theory.specs.Analysis.Hyperperiod.{released-jobs}
+use Rattle.theory.specs.Analysis.Clearing.{clearing, response-clearing, late-clearing}
+use Rattle.theory.specs.Model.Chain.{Chain, delay, worst, worstRelease, bound}
+use Rattle.theory.specs.Analysis.ChainLaws.{delay-same, worst-same, worst-release-same, bound-same}
 
 -- What is decided to hold holds.
 pub decided : {P : Type 0} (d : Dec P) → T (decide d) → P

@@ -9,13 +9,13 @@ use lib.Dec.{leb}
 use lib.ListN.{length}
 use borrow.Author.Tests.{leb-true, le-leb}
 use Rattle.theory.specs.declared.Task.{Task}
-use Rattle.theory.specs.Model.{period, release, Proper, need, Run, done, Schedule, Finishes}
-use Rattle.theory.specs.Responses.{full, fullBudget, finish, response, Late}
-use Rattle.theory.specs.Ranges.{least-within, least-passes, least-first}
-use Rattle.theory.specs.Work.{done-grows}
-use Rattle.theory.specs.Backlog.{fullBacklog, backlog}
-use Rattle.theory.specs.Existence.{full-schedule}
-use Rattle.theory.specs.Finish.{FirstZero, first-zero-unique, finish-least, zero-done, first-zero-finish, on-time-zero}
+use Rattle.theory.specs.Model.Schedule.{period, release, Proper, need, Run, done, Schedule, Finishes}
+use Rattle.theory.specs.Model.Responses.{full, fullBudget, finish, response, Late}
+use Rattle.arith.specs.RangeLaws.{least-within, least-passes, least-first}
+use Rattle.theory.specs.Analysis.Work.{done-grows}
+use Rattle.theory.specs.Analysis.Backlog.{fullBacklog, backlog}
+use Rattle.theory.specs.Analysis.Existence.{full-schedule}
+use Rattle.theory.specs.Analysis.Finish.{FirstZero, first-zero-unique, finish-least, zero-done, first-zero-finish, on-time-zero}
 
 -- The finish, as its search finds it
 

@@ -13,11 +13,12 @@ use borrow.Author.Tests.{ltb-true, ltb-false, lt-ltb, le-ltb, eqb-true, eq-eqb}
 use Rattle.arith.specs.Whole.{up}
 use Rattle.arith.specs.WholeLaws.{gcd-divides-left, gcd-divides-right, gcd-pos, gap-multiple, up-divides, up-above, up-near, up-mono, up-shift}
 use Rattle.theory.specs.declared.Task.{Task}
-use Rattle.theory.specs.Ranges.{maximum, least, maximum-above, maximum-least, maximum-reached, least-passes, least-first}
-use Rattle.theory.specs.Model.{period, release, rank, Proper}
-use Rattle.theory.specs.Responses.{hyperperiod, jobs}
-use Rattle.theory.specs.Hyperperiod.{jobs-whole, jobs-positive, jobs-released}
-use Rattle.theory.specs.Chain.{Chain, outranks, Table, nextRelease, delay, worst, worstRelease, common, bound}
+use Rattle.arith.specs.Ranges.{maximum, least}
+use Rattle.arith.specs.RangeLaws.{maximum-above, maximum-least, maximum-reached, least-passes, least-first}
+use Rattle.theory.specs.Model.Schedule.{period, release, rank, Proper}
+use Rattle.theory.specs.Model.Responses.{hyperperiod, jobs}
+use Rattle.theory.specs.Analysis.Hyperperiod.{jobs-whole, jobs-positive, jobs-released}
+use Rattle.theory.specs.Model.Chain.{Chain, outranks, Table, nextRelease, delay, worst, worstRelease, common, bound}
 
 pub chain-head : (ts : List Task) (p : ℕ) (rest : List ℕ) → Chain ts p rest → p < length ts
 chain-head ts p [] l = l

@@ -6,14 +6,14 @@ use native.Mathlib.Nat.{le-refl, div-mul-le-self}
 use native.Mathlib.Omega.{arith}
 use lib.ListN.{length}
 use Rattle.theory.specs.declared.Task.{Task}
-use Rattle.theory.specs.Model.{period, release, Demands, Within, Run, Schedule}
-use Rattle.theory.specs.Responses.{full, fullBudget, response, hyperperiod, taskResponse, Accepted}
-use Rattle.theory.specs.Repetition.{response-again, response-greatest}
-use Rattle.theory.specs.Chain.{Chain, delay, worst, worstRelease, bound, PathEnds, Rising}
-use Rattle.theory.specs.ChainLaws.{chain-head, delay-worst, worst-bound, worst-release-job, worst-release-early, worst-release-delay, worst-release-least}
-use Rattle.theory.specs.Paths.{path-unique, path-within, path-exists, path-exact}
-use Rattle.theory.specs.Examples.{quartet, quartet-chain}
-use Rattle.theory.specs.Quartet.{quartet-run, quartet-path}
+use Rattle.theory.specs.Model.Schedule.{period, release, Demands, Within, Run, Schedule}
+use Rattle.theory.specs.Model.Responses.{full, fullBudget, response, hyperperiod, taskResponse, Accepted}
+use Rattle.theory.specs.Analysis.Repetition.{response-again, response-greatest}
+use Rattle.theory.specs.Model.Chain.{Chain, delay, worst, worstRelease, bound, PathEnds, Rising}
+use Rattle.theory.specs.Analysis.ChainLaws.{chain-head, delay-worst, worst-bound, worst-release-job, worst-release-early, worst-release-delay, worst-release-least}
+use Rattle.theory.specs.Analysis.Paths.{path-unique, path-within, path-exists, path-exact}
+use Rattle.theory.specs.Results.Examples.{quartet, quartet-chain}
+use Rattle.theory.specs.Results.Quartet.{quartet-run, quartet-path}
 
 -- A figure is the greatest delay of the chain over all releases of its first task, and a release the smallest that gives it; it is before H.
 pub record GreatestDelay (ts : List Task) (p : ℕ) (rest : List ℕ) (figure at : ℕ) : Type 0 where

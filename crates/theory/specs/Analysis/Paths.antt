@@ -13,16 +13,17 @@ use borrow.Author.Tests.{leb-true, le-leb}
 use Rattle.arith.specs.Whole.{up}
 use Rattle.arith.specs.WholeLaws.{up-above, up-near}
 use Rattle.theory.specs.declared.Task.{Task}
-use Rattle.theory.specs.Ranges.{least, least-passes, least-first}
-use Rattle.theory.specs.Model.{period, release, rank, Demands, Within, Run, Pending, Schedule, Starts, Finishes}
-use Rattle.theory.specs.Responses.{full, response, Accepted}
-use Rattle.theory.specs.Work.{done-grows, need-step, due-covers}
-use Rattle.theory.specs.Finish.{finish-before, finish-unique, start-unique, start-released}
-use Rattle.theory.specs.ResponseLaws.{response-finishes}
-use Rattle.theory.specs.Repetition.{never-late}
-use Rattle.theory.specs.NeverLater.{full-within, job-starts, job-finishes, finish-response-later}
-use Rattle.theory.specs.Chain.{Chain, nextRelease, delay, HandOver, PathEnds, Rising}
-use Rattle.theory.specs.ChainLaws.{chain-head, next-outranking, next-job, next-later, delay-step}
+use Rattle.arith.specs.Ranges.{least}
+use Rattle.arith.specs.RangeLaws.{least-passes, least-first}
+use Rattle.theory.specs.Model.Schedule.{period, release, rank, Demands, Within, Run, Pending, Schedule, Starts, Finishes}
+use Rattle.theory.specs.Model.Responses.{full, response, Accepted}
+use Rattle.theory.specs.Analysis.Work.{done-grows, need-step, due-covers}
+use Rattle.theory.specs.Analysis.Finish.{finish-before, finish-unique, start-unique, start-released}
+use Rattle.theory.specs.Analysis.ResponseLaws.{response-finishes}
+use Rattle.theory.specs.Analysis.Repetition.{never-late}
+use Rattle.theory.specs.Analysis.NeverLater.{full-within, job-starts, job-finishes, finish-response-later}
+use Rattle.theory.specs.Model.Chain.{Chain, nextRelease, delay, HandOver, PathEnds, Rising}
+use Rattle.theory.specs.Analysis.ChainLaws.{chain-head, next-outranking, next-job, next-later, delay-step}
 
 -- A run has at most one path from a job
 

@@ -7,11 +7,11 @@ use native.Mathlib.Omega.{arith}
 use native.Mathlib.Decide.{decLt}
 use lib.ListN.{length}
 use Rattle.theory.specs.declared.Task.{Task}
-use Rattle.theory.specs.Model.{period, release, Proper, need, done}
-use Rattle.theory.specs.Responses.{full, fullBudget, response, Late}
-use Rattle.theory.specs.Backlog.{load, drain, fullBacklog, drain-step}
-use Rattle.theory.specs.Finish.{FirstZero}
-use Rattle.theory.specs.ResponseLaws.{late-response, zero-on-time, response-first-zero, response-most}
+use Rattle.theory.specs.Model.Schedule.{period, release, Proper, need, done}
+use Rattle.theory.specs.Model.Responses.{full, fullBudget, response, Late}
+use Rattle.theory.specs.Analysis.Backlog.{load, drain, fullBacklog, drain-step}
+use Rattle.theory.specs.Analysis.Finish.{FirstZero}
+use Rattle.theory.specs.Analysis.ResponseLaws.{late-response, zero-on-time, response-first-zero, response-most}
 
 -- From the backlog b just before the releases of tick t: the ticks until it is 0, or n where that is not below n.
 unfoldable pub until : (ℕ → ℕ) → ℕ → ℕ → ℕ → ℕ

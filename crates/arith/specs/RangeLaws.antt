@@ -1,4 +1,4 @@
--- Three walks over the numbers 0 .. n - 1: the sum of a function, its maximum, and the least number that passes a test.
+-- The laws of sums, maxima and the least number that passes a test.
 use mathlib.Core.Path.{_≡_, refl, sym, ap, ap₂, _∙_, subst}
 use mathlib.Core.Logic.{_≢_}
 use mathlib.Core.Bool.{Bool, true, false, cond}
@@ -6,23 +6,7 @@ use Prim.Native.Nat.{ℕ, zero, suc, _+_, _*_, max, _≤_, _<_}
 use native.Mathlib.Nat.{le-refl, le-trans}
 use native.Mathlib.Omega.{arith}
 use native.Mathlib.Decide.{ℕ-discrete, decLe, le-ind}
-
--- Definitions
-
--- f 0 + f 1 + .. + f (n - 1).
-unfoldable pub sum : ℕ → (ℕ → ℕ) → ℕ
-sum zero f = zero
-sum (suc n) f = sum n f + f n
-
--- The greatest of f 0 .. f (n - 1), or 0.
-unfoldable pub maximum : ℕ → (ℕ → ℕ) → ℕ
-maximum zero f = 0
-maximum (suc n) f = max (maximum n f) (f n)
-
--- The least of 0 .. n - 1 that passes the test, or n where none does.
-unfoldable pub least : ℕ → (ℕ → Bool) → ℕ
-least zero test = zero
-least (suc n) test = cond (test 0) 0 (suc (least n (λ x. test (suc x))))
+use Rattle.arith.specs.Ranges.{sum, maximum, least}
 
 -- What holds below n and at n holds below n + 1.
 pub below-suc : {n : ℕ} (P : ℕ → Type 0) → ((x : ℕ) → x < n → P x) → P n → (x : ℕ) → x < suc n → P x

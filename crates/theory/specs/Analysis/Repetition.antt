@@ -9,16 +9,16 @@ use lib.Dec.{eqb}
 use lib.Arith.{digits-mod}
 use lib.ListN.{length}
 use Rattle.theory.specs.declared.Task.{Task}
-use Rattle.theory.specs.Model.{period, release, budget, Proper, need, released, done}
-use Rattle.theory.specs.Responses.{full, fullBudget, response, hyperperiod, jobs, taskResponse, Late, Accepted}
-use Rattle.theory.specs.Ranges.{maximum-above}
-use Rattle.theory.specs.Work.{due-most}
-use Rattle.theory.specs.Level.{level-eq}
-use Rattle.theory.specs.Backlog.{fullBacklog, load, drain, backlog, empty-backlog}
-use Rattle.theory.specs.Finish.{FirstZero}
-use Rattle.theory.specs.Existence.{full-schedule}
-use Rattle.theory.specs.Hyperperiod.{jobs-whole, jobs-positive, jobs-released}
-use Rattle.theory.specs.ResponseLaws.{zero-on-time, response-first-zero, first-zero-response, response-most}
+use Rattle.theory.specs.Model.Schedule.{period, release, budget, Proper, need, released, done}
+use Rattle.theory.specs.Model.Responses.{full, fullBudget, response, hyperperiod, jobs, taskResponse, Late, Accepted}
+use Rattle.arith.specs.RangeLaws.{maximum-above}
+use Rattle.theory.specs.Analysis.Work.{due-most}
+use Rattle.theory.specs.Analysis.Level.{level-eq}
+use Rattle.theory.specs.Analysis.Backlog.{fullBacklog, load, drain, backlog, empty-backlog}
+use Rattle.theory.specs.Analysis.Finish.{FirstZero}
+use Rattle.theory.specs.Analysis.Existence.{full-schedule}
+use Rattle.theory.specs.Analysis.Hyperperiod.{jobs-whole, jobs-positive, jobs-released}
+use Rattle.theory.specs.Analysis.ResponseLaws.{zero-on-time, response-first-zero, first-zero-response, response-most}
 
 module _ {ts : List Task} (ok : Accepted ts) where
   abbrev H : ℕ

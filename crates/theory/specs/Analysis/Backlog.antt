@@ -9,11 +9,11 @@ use native.Mathlib.Decide.{decLe, decLt}
 use lib.Dec.{eqb}
 use lib.ListN.{length}
 use Rattle.theory.specs.declared.Task.{Task}
-use Rattle.theory.specs.Model.{period, rank, Demands, released, due, Slot, idle, busy, Run, runs, done, Pending, Schedule}
-use Rattle.theory.specs.Ranges.{sum}
-use Rattle.theory.specs.Responses.{full}
-use Rattle.theory.specs.Level.{level, cond-le, level-zero, level-add, level-le, level-tight, level-runs}
-use Rattle.theory.specs.Work.{runs-most, runs-busy, done-step, due-step}
+use Rattle.theory.specs.Model.Schedule.{period, rank, Demands, released, due, Slot, idle, busy, Run, runs, done, Pending, Schedule}
+use Rattle.arith.specs.Ranges.{sum}
+use Rattle.theory.specs.Model.Responses.{full}
+use Rattle.theory.specs.Analysis.Level.{level, cond-le, level-zero, level-add, level-le, level-tight, level-runs}
+use Rattle.theory.specs.Analysis.Work.{runs-most, runs-busy, done-step, due-step}
 
 -- The work of the level that is released at tick t.
 unfoldable pub load : List Task → Demands → ℕ → ℕ → ℕ

@@ -5,9 +5,9 @@ use lib.Dec.{leb}
 use lib.ListN.{length}
 use Rattle.arith.specs.Whole.{lcm}
 use Rattle.theory.specs.declared.Task.{Task}
-use Rattle.theory.specs.Ranges.{sum, maximum, least}
-use Rattle.theory.specs.Model.{period, release, budget, Proper, Demands, need, Slot, idle, busy, Run, done}
-use Rattle.theory.specs.Simulate.{simulate}
+use Rattle.arith.specs.Ranges.{sum, maximum, least}
+use Rattle.theory.specs.Model.Schedule.{period, release, budget, Proper, Demands, need, Slot, idle, busy, Run, done}
+use Rattle.theory.specs.Model.Simulate.{simulate}
 
 -- "In the full-budget schedule every demand is C."
 abbrev pub full : List Task → Demands

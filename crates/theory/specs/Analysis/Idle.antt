@@ -5,15 +5,16 @@ use Prim.Native.Nat.{ℕ, zero, suc, _+_, _-_, _*_, _≤_, _<_}
 use native.Mathlib.Omega.{arith}
 use lib.ListN.{length}
 use Rattle.theory.specs.declared.Task.{Task}
-use Rattle.theory.specs.Ranges.{sum, sum-add, sum-eq, sum-zero, sum-const, sum-point}
-use Rattle.theory.specs.Model.{budget, rank, Demands, need, released, due, Slot, idle, busy, Run, runs, done, Schedule}
-use Rattle.theory.specs.Responses.{full, fullBudget, hyperperiod, jobs, rests, idleTicks, Accepted}
-use Rattle.theory.specs.Work.{runs-self, runs-other, due-most}
-use Rattle.theory.specs.Level.{level, level-add, level-all}
-use Rattle.theory.specs.Backlog.{load, backlog, drain-step, done-most, backlog-unfinished}
-use Rattle.theory.specs.Existence.{full-schedule}
-use Rattle.theory.specs.Hyperperiod.{jobs-whole}
-use Rattle.theory.specs.Repetition.{hyperperiod-done}
+use Rattle.arith.specs.Ranges.{sum}
+use Rattle.arith.specs.RangeLaws.{sum-add, sum-eq, sum-zero, sum-const, sum-point}
+use Rattle.theory.specs.Model.Schedule.{budget, rank, Demands, need, released, due, Slot, idle, busy, Run, runs, done, Schedule}
+use Rattle.theory.specs.Model.Responses.{full, fullBudget, hyperperiod, jobs, rests, idleTicks, Accepted}
+use Rattle.theory.specs.Analysis.Work.{runs-self, runs-other, due-most}
+use Rattle.theory.specs.Analysis.Level.{level, level-add, level-all}
+use Rattle.theory.specs.Analysis.Backlog.{load, backlog, drain-step, done-most, backlog-unfinished}
+use Rattle.theory.specs.Analysis.Existence.{full-schedule}
+use Rattle.theory.specs.Analysis.Hyperperiod.{jobs-whole}
+use Rattle.theory.specs.Analysis.Repetition.{hyperperiod-done}
 
 module _ {ts : List Task} {d : Demands} {run : Run} (s : Schedule ts d run) where
   tick-shared : (t : ℕ) → sum (length ts) (λ j. runs j (run t)) + rests (run t) ≡ 1

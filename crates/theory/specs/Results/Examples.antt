@@ -7,12 +7,12 @@ use native.Mathlib.Omega.{arith}
 use lib.Dec.{T, ltb, eqb, ltb→lt, eqb→eq}
 use lib.ListN.{length}
 use Rattle.theory.specs.declared.Task.{Task}
-use Rattle.theory.specs.Ranges.{sum, maximum}
-use Rattle.theory.specs.Responses.{LateTask, response, taskResponse, hyperperiod, jobs, allJobs, idleTicks, Accepted}
-use Rattle.theory.specs.Idle.{idle-adds-up}
-use Rattle.theory.specs.Evaluation.{delay-clearing, chain?, worst-clearing, worst-release-clearing, bound-clearing, decided, proper?, clears?, clears-accepted, Row, row?, cleared-row}
-use Rattle.theory.specs.Chain.{delay, worst, worstRelease, bound}
-use Rattle.theory.specs.Clearing.{clearing, clearing-late}
+use Rattle.arith.specs.Ranges.{sum, maximum}
+use Rattle.theory.specs.Model.Responses.{LateTask, response, taskResponse, hyperperiod, jobs, allJobs, idleTicks, Accepted}
+use Rattle.theory.specs.Analysis.Idle.{idle-adds-up}
+use Rattle.theory.specs.Analysis.Evaluation.{delay-clearing, chain?, worst-clearing, worst-release-clearing, bound-clearing, decided, proper?, clears?, clears-accepted, Row, row?, cleared-row}
+use Rattle.theory.specs.Model.Chain.{delay, worst, worstRelease, bound}
+use Rattle.theory.specs.Analysis.Clearing.{clearing, clearing-late}
 
 -- A task (T, C, rank).
 abbrev pub task : ℕ → ℕ → ℕ → Task

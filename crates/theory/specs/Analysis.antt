@@ -1,0 +1,17 @@
+-- The laws of the schedule.
+pub mod Work
+pub mod Level
+pub mod Backlog
+pub mod Finish
+pub mod Existence
+pub mod ResponseLaws
+pub mod Clearing
+pub mod Hyperperiod
+pub mod Repetition
+pub mod Idle
+pub mod NeverLater
+-- The laws of the chain.
+pub mod ChainLaws
+pub mod Paths
+-- Figures of given sheets by evaluation.
+pub mod Evaluation

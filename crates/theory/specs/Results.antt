@@ -1,0 +1,3 @@
+pub mod Examples
+pub mod Quartet
+pub mod Demand3

@@ -11,7 +11,7 @@ use Rattle.bits.specs.Bits.{listOf}
 use Rattle.theory.specs.declared.Task.{Task}
 use Rattle.theory.specs.Model.Schedule.{none}
 use Rattle.sheet.specs.declared.Sheet.{Sheet}
-use Rattle.sheet.specs.Answers.{Answer, given, refused, after}
+use Rattle.answers.specs.Answers.{Answer, given, refused, after}
 use Rattle.sheet.specs.Calls.{places, readOf, writeOf, bufferAfter}
 use Rattle.schedule.specs.declared.answer.Totals.{Totals}
 use Rattle.schedule.specs.Answer.{tasksOf}

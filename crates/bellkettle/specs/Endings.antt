@@ -10,16 +10,16 @@ use lib.Seq.{sets}
 use Rattle.bits.specs.Bits.{listOf}
 use Rattle.sheet.specs.declared.Sheet.{Sheet}
 use Rattle.sheet.specs.declared.Reading.{Reading}
-use Rattle.sheet.specs.declared.Refusal.{Refusal}
-use Rattle.sheet.specs.declared.Refusal.the-variants.{Number, Late}
-use Rattle.sheet.specs.declared.Verdict.the-variants.{Fine, No as NoSheet}
+use Rattle.answers.specs.declared.Refusal.{Refusal}
+use Rattle.answers.specs.declared.Refusal.the-variants.{Number, With}
+use Rattle.answers.specs.declared.Verdict.the-variants.{Fine, No as NoSheet}
 use Rattle.sheet.specs.declared.Written.{Written}
 use Rattle.sheet.specs.declared.Written.the-variants.{Bytes, No as NoBytes}
-use Rattle.sheet.specs.Answers.{Answer, given, after, when}
-use Rattle.sheet.specs.AnswerLaws.{also-fine, also-no}
+use Rattle.answers.specs.Answers.{Answer, given, after, when, refusal}
+use Rattle.answers.specs.AnswerLaws.{also-fine, also-no, also-given}
 use Rattle.sheet.specs.Calls.{judgeOf, sizeOf, readOf, writeOf}
-use Rattle.sheet.specs.Sound.{also-given, judged-sound}
-use Rattle.sheet.specs.Told.{refusal, toldSheet, toldBytes}
+use Rattle.sheet.specs.Sound.{judged-sound}
+use Rattle.sheet.specs.Told.{toldSheet, toldBytes}
 use Rattle.schedule.specs.declared.answer.Responses.{Responses}
 use Rattle.schedule.specs.declared.answer.Responses.the-variants.{Table, No as NoTable}
 use Rattle.schedule.specs.Answer.{tasksOf, toldTotals}

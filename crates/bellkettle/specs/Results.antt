@@ -5,8 +5,9 @@ use Prim.Native.Nat.{ℕ}
 use native.Mathlib.Omega.{arith}
 use lib.IntN.{ℤ}
 use Rattle.sheet.specs.declared.Sheet.{Sheet}
-use Rattle.sheet.specs.Answers.{Answer, given, refused}
-use Rattle.sheet.specs.NumberLaws.{Numbered, given-numbered, numbered-wider, after-numbered, read-numbered, write-numbered}
+use Rattle.answers.specs.Answers.{Answer, given, refused}
+use Rattle.answers.specs.NumberLaws.{Numbered, given-numbered, numbered-wider, after-numbered}
+use Rattle.sheet.specs.NumberLaws.{read-numbered, write-numbered}
 use Rattle.schedule.specs.Answer.{responsesOf}
 use Rattle.schedule.specs.Cases.{responses-numbered}
 use Rattle.chain.specs.Answer.{defaultLimit, delayOf, worstOf, boundOf, marginOf, defaultMarginOf, figuresOf}

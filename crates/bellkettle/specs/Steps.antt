@@ -2,11 +2,10 @@
 use mathlib.Core.List.{List, [], _∷_}
 use Prim.Native.Nat.{ℕ}
 use lib.IntN.{ℤ, pos}
-use Rattle.sheet.specs.declared.Verdict.{Verdict}
+use Rattle.answers.specs.declared.Verdict.{Verdict}
 use Rattle.sheet.specs.declared.Written.{Written}
 use Rattle.sheet.specs.declared.Written.the-variants.{Bytes, No as NoBytes}
-use Rattle.sheet.specs.Answers.{Answer, given}
-use Rattle.sheet.specs.Told.{refusal, refusalIn}
+use Rattle.answers.specs.Answers.{Answer, given, refusal, refusalIn}
 use Rattle.schedule.specs.declared.answer.Responses.{Responses}
 use Rattle.schedule.specs.declared.answer.Responses.the-variants.{Table, No as NoTable}
 use Rattle.chain.specs.declared.answer.Delay.{Delay}

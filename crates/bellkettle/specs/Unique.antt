@@ -5,7 +5,7 @@ use Prim.Native.Nat.{ℕ}
 use lib.IntN.{ℤ}
 use lib.ListN.{length}
 use Rattle.sheet.specs.declared.Sheet.{Sheet}
-use Rattle.sheet.specs.Answers.{Answer, given}
+use Rattle.answers.specs.Answers.{Answer, given}
 use Rattle.schedule.specs.Answer.{responsesOf}
 use Rattle.chain.specs.Answer.{delayOf, worstOf, boundOf, marginOf, defaultMarginOf, figuresOf}
 use Rattle.bellkettle.specs.Answer.{Returned, alone, signed, totalsNumbers, figureNumbers, summaryNumbers, answered, Ended, countsOf, periodsIn, budgetsIn, ranksIn, entriesIn, fieldsAfter, sheetFrom, written, WriteEnded}

@@ -1,6 +1,8 @@
 // The library for programs in C: document 01's calls over the bytes of a sheet. Each returns the number of the refusal, or 0; what
 // else it answers goes to lent slices. No sheet, answer or struct crosses over, so nothing has to be trusted but pointers and
 // lengths. What is returned and left is defined in specs/Answer.antt; include/bellkettle.h says it to those who call.
+use answers::Refusal;
+use answers::Verdict;
 use chain::Bound;
 use chain::Delay;
 use chain::Figures;
@@ -8,9 +10,7 @@ use chain::Margin;
 use chain::Summary;
 use chain::Worst;
 use schedule::Responses;
-use sheet::Refusal;
 use sheet::Sheet;
-use sheet::Verdict;
 use sheet::Written;
 use theory::Task;
 ghost use mathlib.Core.Path.{_≡_};
@@ -19,9 +19,8 @@ ghost use lib.IntN.{pos};
 ghost use lib.ListN.{length, getD, set};
 ghost use lib.Seq.{sets};
 ghost use Rattle.theory.specs.Model.Schedule.{none};
-ghost use Rattle.sheet.specs.Answers.{given};
+ghost use Rattle.answers.specs.Answers.{given, refusal};
 ghost use Rattle.sheet.specs.Calls.{places};
-ghost use Rattle.sheet.specs.Told.{refusal};
 ghost use Rattle.schedule.specs.Answer.{responsesOf};
 ghost use Rattle.chain.specs.Answer.{delayOf, worstOf, boundOf, marginOf, defaultMarginOf, figuresOf};
 ghost use Rattle.bellkettle.specs.Answer.{numberOf, valuesAfter, Returned, alone, signed, totalsNumbers, figureNumbers, summaryNumbers, answered, Ended, countsOf, periodsIn, budgetsIn, ranksIn, entriesIn, sixteen, fieldsAfter, counted, tasksCounted, taskFrom, sheetFrom, WriteEnded};

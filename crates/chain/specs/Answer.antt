@@ -10,8 +10,7 @@ use Rattle.theory.specs.Model.Schedule.{period}
 use Rattle.theory.specs.Model.Responses.{response, hyperperiod, allJobs, taskResponse}
 use Rattle.theory.specs.Model.Chain.{delay, worst, worstRelease, bound}
 use Rattle.sheet.specs.declared.Sheet.{Sheet}
-use Rattle.sheet.specs.Answers.{Answer, given, refused, when, after, also}
-use Rattle.sheet.specs.Told.{refusal}
+use Rattle.answers.specs.Answers.{Answer, given, refused, when, after, also, refusal}
 use Rattle.schedule.specs.Answer.{tasksOf, sizesOf, responsesOf, rows, tableAfter}
 use Rattle.schedule.specs.declared.answer.Totals.{Totals}
 use Rattle.chain.specs.declared.answer.Figure.{Figure}

@@ -1,5 +1,5 @@
 -- What an answer tells of its sheet: the sheet is taken, and the figure is the chain's and at most 3,100,000.
-use mathlib.Core.Path.{_≡_, refl, sym}
+use mathlib.Core.Path.{_≡_, sym}
 use mathlib.Core.Bool.{Bool, true, false, cond, false≢true}
 use mathlib.Core.List.{List}
 use Prim.Native.Nat.{ℕ, _%_, _≤_, _<_}
@@ -16,8 +16,8 @@ use Rattle.theory.specs.Model.Responses.{response, hyperperiod, jobs}
 use Rattle.theory.specs.Analysis.Repetition.{response-period}
 use Rattle.theory.specs.Model.Chain.{delay, worst}
 use Rattle.sheet.specs.declared.Sheet.{Sheet}
-use Rattle.sheet.specs.Answers.{Answer, given, refused, when, after}
-use Rattle.sheet.specs.Sound.{when-fine, also-given}
+use Rattle.answers.specs.Answers.{given, when, after}
+use Rattle.answers.specs.AnswerLaws.{when-fine, also-given, after-given}
 use Rattle.schedule.specs.Answer.{tasksOf, sizesOf, responsesOf}
 use Rattle.chain.specs.declared.answer.Figure.{Figure}
 use Rattle.chain.specs.Answer.{chainOf, firstOf, restOf, delayAt, figureOf, quickBound, less, noRelease, mostLimit, delayOf, worstOf, boundOf, marginOf}
@@ -25,11 +25,6 @@ use Rattle.chain.specs.Steps.{Taken, mostFigure}
 use Rattle.chain.specs.Largest.{along-chain, Small, delay-most}
 use Rattle.chain.specs.SheetLaws.{period-positive, period-most, chain-known}
 use Rattle.chain.specs.Cases.{filled-taken}
-
--- What is given after an answer was given before.
-pub after-given : {A B : Type 0} (source : Answer A) (next : A → Answer B) {b : B} → after source next ≡ given b → (a : A) × (source ≡ given a) × (next a ≡ given b)
-after-given (given a) next e = (a, refl, e)
-after-given (refused number values) next e = let z : _≡_ {A = ℕ} 0 1 = cc in absurd (omega arith)
 
 -- The answer of a chain's call is given for a sheet that is taken.
 pub figure-given : {A : Type 0} (s : Sheet) (room : ℕ) (y : A) {x : A} → after (responsesOf s room) (λ totals. given y) ≡ given x → Taken s × (y ≡ x)

@@ -10,12 +10,10 @@ use Rattle.theory.specs.declared.Task.{Task}
 use Rattle.theory.specs.Model.Schedule.{period}
 use Rattle.theory.specs.Model.Responses.{hyperperiod}
 use Rattle.sheet.specs.declared.Sheet.{Sheet}
-use Rattle.sheet.specs.declared.Refusal.{Refusal}
-use Rattle.sheet.specs.declared.Refusal.the-variants.{Number, Late}
-use Rattle.sheet.specs.Answers.{Answer, given, refused, after}
-use Rattle.sheet.specs.NumberLaws.{Numbered, given-numbered, numbered-wider, when-numbered, after-numbered, also-numbered}
+use Rattle.answers.specs.declared.Refusal.{Refusal}
+use Rattle.answers.specs.Answers.{Answer, given, refused, after, numberIn, refusal}
+use Rattle.answers.specs.NumberLaws.{Numbered, given-numbered, numbered-wider, when-numbered, after-numbered, also-numbered}
 use Rattle.sheet.specs.Sound.{judged-sound}
-use Rattle.sheet.specs.Told.{refusal}
 use Rattle.schedule.specs.declared.answer.Totals.{Totals}
 use Rattle.schedule.specs.declared.answer.Size.{Size}
 use Rattle.schedule.specs.Answer.{tasksOf, sizesOf, responsesOf, tableAfter}
@@ -42,21 +40,13 @@ pub table-leaves : (answer : Answer Totals) (ts : List Task) (old : List ℕ) �
 table-leaves (given totals) ts old = refl
 table-leaves (refused number values) ts old = refl
 
-leaves-refusal : (A B : Type 0) (ts : List Task) (old : List ℕ) (r : Refusal) → leaves {A = A} (refusal r) ts old ≡ leaves {A = B} (refusal r) ts old
-leaves-refusal A B ts old (Number n) = refl
-leaves-refusal A B ts old (Late i) = refl
-
-pub after-refusal : {A B : Type 0} (r : Refusal) (next : A → Answer B) → after (refusal r) next ≡ refusal r
-after-refusal (Number n) next = refl
-after-refusal (Late i) next = refl
-
 module _ {A B : Type 0} (ts : List Task) (old : List ℕ) {source : Answer A} (next : A → Answer B) where
   -- "a refusal met on the way is handed up unchanged"
   pub ended-no : (r : Refusal) {table : List ℕ} → source ≡ refusal r → table ≡ leaves source ts old
       → Ended (after source next) ts old (refusal r) table
   ended-no r e t =
-      let d : after source next ≡ refusal r = ap (λ a. after a next) e ∙ after-refusal r next in
-      (sym d, t ∙ ap (λ a. leaves a ts old) e ∙ leaves-refusal A B ts old r ∙ ap (λ a. leaves a ts old) (sym d))
+      let d : after source next ≡ refusal r = ap (λ a. after a next) e in
+      (sym d, t ∙ ap (λ a. leaves a ts old) e ∙ ap (λ a. leaves a ts old) (sym d))
 
   pub ended-given : {a : A} {b : B} {table : List ℕ} → source ≡ given a → next a ≡ given b
       → table ≡ leaves source ts old → Ended (after source next) ts old (given b) table
@@ -66,8 +56,7 @@ module _ {A B : Type 0} (ts : List Task) (old : List ℕ) {source : Answer A} (n
 
 -- A refusal of H and J leaves the table untouched,
 pub sizes-untouched : (s : Sheet) (old : List ℕ) (r : Refusal) → sizesOf s ≡ refusal r → old ≡ leaves (sizesOf s) (tasksOf s) old
-sizes-untouched s old (Number n) e = let l : n ≤ 11 = sizes-numbered s .most e in rw (e, ne-eqb n 15 (λ z. omega arith))
-sizes-untouched s old (Late i) e = absurd (omega (arith, sizes-numbered s .most e))
+sizes-untouched s old r e = let l : numberIn r ≤ 11 = sizes-numbered s .most e in rw (e, ne-eqb (numberIn r) 15 (λ z. omega arith))
 
 -- and so does 12 or 13.
 pub ended-number : {A : Type 0} {definition : Answer A} (n : ℕ) (ts : List Task) (old : List ℕ) → n ≤ 14 → definition ≡ refused n [] → Ended definition ts old (refused n []) old

@@ -13,10 +13,11 @@ use Rattle.theory.specs.Analysis.Repetition.{response-again}
 use Rattle.theory.specs.Model.Chain.{Chain, delay, worst, bound, PathEnds, Rising}
 use Rattle.theory.specs.Analysis.ChainLaws.{delay-again}
 use Rattle.theory.specs.Analysis.Paths.{path-within, path-exists, path-exact}
-use Rattle.theory.specs.Demand3 as demand
+use Rattle.theory.specs.Results.Demand3 as demand
 use Rattle.theory.specs.Results.Demand3.{GreatestDelay}
 use Rattle.sheet.specs.declared.Sheet.{Sheet}
-use Rattle.sheet.specs.Answers.{given}
+use Rattle.answers.specs.Answers.{given}
+use Rattle.answers.specs.AnswerLaws.{after-given}
 use Rattle.schedule.specs.declared.answer.Totals.{Totals}
 use Rattle.schedule.specs.Answer.{tasksOf, responsesOf}
 use Rattle.chain.specs.declared.answer.Summary.{Summary}
@@ -25,7 +26,7 @@ use Rattle.chain.specs.Steps.{Taken}
 use Rattle.chain.specs.MarginLaws.{kept-within, below-over}
 use Rattle.chain.specs.SheetLaws.{chain-known, job-release}
 use Rattle.chain.specs.Cases.{margin-asked}
-use Rattle.chain.specs.Answered.{after-given, delay-release, delay-given, worst-given, bound-given, margin-given}
+use Rattle.chain.specs.Answered.{delay-release, delay-given, worst-given, bound-given, margin-given}
 
 -- ---- the words
 

@@ -13,12 +13,10 @@ use Rattle.theory.specs.Model.Schedule.{period, release, rank}
 use Rattle.theory.specs.Model.Responses.{hyperperiod, jobs, allJobs, Accepted}
 use Rattle.theory.specs.Model.Chain.{outranks, Table, nextRelease, delay, common}
 use Rattle.sheet.specs.declared.Sheet.{Sheet}
-use Rattle.sheet.specs.declared.Refusal.{Refusal}
-use Rattle.sheet.specs.declared.Refusal.the-variants.{Number}
+use Rattle.answers.specs.declared.Refusal.{Refusal}
+use Rattle.answers.specs.declared.Refusal.the-variants.{Number}
 use Rattle.sheet.specs.Sound.{Sound}
 use Rattle.schedule.specs.Answer.{mostTicks, mostJobs, tasksOf, rows}
-use Rattle.schedule.specs.declared.answer.Responses.{Responses}
-use Rattle.schedule.specs.declared.answer.Responses.the-variants.{Table as Filled, No}
 use Rattle.chain.specs.declared.answer.Figure.{Figure}
 use Rattle.chain.specs.declared.answer.Worst.{Worst}
 use Rattle.chain.specs.declared.answer.Worst.the-variants.{Is, No as NoWorst}
@@ -128,10 +126,6 @@ pub record Gathered (ts : List Task) (n : ℕ) (periods ranks starts counts : Li
   pub counts-are : Column counts n (jobs ts)
 
 -- ---- the refusal that an answer holds
-
-abbrev pub responsesRefusal : Responses → Refusal
-responsesRefusal (Filled totals) = Number 0
-responsesRefusal (No r) = r
 
 abbrev pub worstRefusal : Worst → Refusal
 worstRefusal (Is figure) = Number 0

@@ -6,7 +6,8 @@ use Prim.Native.Nat.{ℕ}
 use lib.IntN.{ℤ, natAbs}
 use lib.ListN.{length}
 use Rattle.sheet.specs.declared.Sheet.{Sheet}
-use Rattle.sheet.specs.Unique.{refusal-unique, refusal-given}
+use Rattle.answers.specs.AnswerLaws.{refusal-unique}
+use Rattle.answers.specs.AnswerLaws.{refused-given}
 use Rattle.schedule.specs.Answer.{tasksOf, responsesOf, greatestAfter}
 use Rattle.chain.specs.declared.answer.Delay.{Delay}
 use Rattle.chain.specs.declared.answer.Delay.the-variants.{Ticks as DelayTicks, No as NoDelay}
@@ -26,32 +27,32 @@ use Rattle.chain.specs.Cases.{Ended}
 
 delay-told : (x y : Delay) → toldDelay x ≡ toldDelay y → x ≡ y
 delay-told (DelayTicks m) (DelayTicks n) e = cc
-delay-told (DelayTicks m) (NoDelay q) e = refusal-given q (sym e)
-delay-told (NoDelay r) (DelayTicks n) e = refusal-given r e
+delay-told (DelayTicks m) (NoDelay q) e = refused-given (sym e)
+delay-told (NoDelay r) (DelayTicks n) e = refused-given e
 delay-told (NoDelay r) (NoDelay q) e = ap NoDelay (refusal-unique r q e)
 
 worst-told : (x y : Worst) → toldWorst x ≡ toldWorst y → x ≡ y
 worst-told (Is f) (Is g) e = cc
-worst-told (Is f) (NoWorst q) e = refusal-given q (sym e)
-worst-told (NoWorst r) (Is g) e = refusal-given r e
+worst-told (Is f) (NoWorst q) e = refused-given (sym e)
+worst-told (NoWorst r) (Is g) e = refused-given e
 worst-told (NoWorst r) (NoWorst q) e = ap NoWorst (refusal-unique r q e)
 
 bound-told : (x y : Bound) → toldBound x ≡ toldBound y → x ≡ y
 bound-told (BoundTicks m) (BoundTicks n) e = cc
-bound-told (BoundTicks m) (NoBound q) e = refusal-given q (sym e)
-bound-told (NoBound r) (BoundTicks n) e = refusal-given r e
+bound-told (BoundTicks m) (NoBound q) e = refused-given (sym e)
+bound-told (NoBound r) (BoundTicks n) e = refused-given e
 bound-told (NoBound r) (NoBound q) e = ap NoBound (refusal-unique r q e)
 
 margin-told : (x y : Margin) → toldMargin x ≡ toldMargin y → x ≡ y
 margin-told (MarginTicks m) (MarginTicks n) e = cc
-margin-told (MarginTicks m) (NoMargin q) e = refusal-given q (sym e)
-margin-told (NoMargin r) (MarginTicks n) e = refusal-given r e
+margin-told (MarginTicks m) (NoMargin q) e = refused-given (sym e)
+margin-told (NoMargin r) (MarginTicks n) e = refused-given e
 margin-told (NoMargin r) (NoMargin q) e = ap NoMargin (refusal-unique r q e)
 
 figures-told : (x y : Figures) → toldFigures x ≡ toldFigures y → x ≡ y
 figures-told (Of m) (Of n) e = cc
-figures-told (Of m) (NoFigures q) e = refusal-given q (sym e)
-figures-told (NoFigures r) (Of n) e = refusal-given r e
+figures-told (Of m) (NoFigures q) e = refused-given (sym e)
+figures-told (NoFigures r) (Of n) e = refused-given e
 figures-told (NoFigures r) (NoFigures q) e = ap NoFigures (refusal-unique r q e)
 
 -- Two answers and tables that meet a call's promise are equal.

@@ -12,9 +12,9 @@ pub use answer::Margin;
 pub use answer::Summary;
 pub use answer::TaskFigures;
 pub use answer::Worst;
+use answers::Refusal;
 use schedule::Responses;
 use schedule::Sizes;
-use sheet::Refusal;
 use sheet::Sheet;
 ghost use mathlib.Core.Path.{_≡_};
 ghost use lib.IntN.{natAbs};
@@ -26,10 +26,9 @@ ghost use Rattle.theory.specs.Model.Schedule.{period, release};
 ghost use Rattle.theory.specs.Model.Chain.{bound};
 ghost use Rattle.sheet.specs.Sound.{Sound};
 ghost use Rattle.schedule.specs.Answer.{mostTicks, tasksOf, responsesOf, greatestAfter};
-ghost use Rattle.schedule.specs.Steps.{refusalOf};
 ghost use Rattle.chain.specs.Answer.{chainOf, firstOf, restOf, delayAt, figureOf, quickBound, less, mostLimit, delayOf, worstOf, boundOf, marginOf, defaultMarginOf, figuresOf, leaves, toldDelay, toldWorst, toldBound, toldMargin, toldFigures};
 ghost use Rattle.schedule.specs.Steps.{Holds};
-ghost use Rattle.chain.specs.Steps.{mostWait, mostFigure, mostRelease, Taken, tasksIn, rowsIn, greatestIn, delayIn, onward, ahead, HandedOver, Opened, Row, Entry, Path, Greatest, pairBound, Gathered, responsesRefusal, worstRefusal};
+ghost use Rattle.chain.specs.Steps.{mostWait, mostFigure, mostRelease, Taken, tasksIn, rowsIn, greatestIn, delayIn, onward, ahead, HandedOver, Opened, Row, Entry, Path, Greatest, pairBound, Gathered, worstRefusal};
 
 // "margin limit 0 to 4,000,000"
 const MOST_LIMIT: u32 = 4000000;
@@ -332,25 +331,7 @@ fn less_of(limit: u32, figure: u32) -> i32
     limit as i32 - figure as i32
 }
 
-// The refusals in answers that hold one.
-fn sizes_refusal(z: Sizes) -> Refusal
-    ensures { λ r. ⌜ r ≡ refusalOf z ⌝ }
-{
-    let Sizes::No(r) = z else {
-        return Refusal::Number(0);
-    };
-    r
-}
-
-fn responses_refusal(a: Responses) -> Refusal
-    ensures { λ r. ⌜ r ≡ responsesRefusal a ⌝ }
-{
-    let Responses::No(r) = a else {
-        return Refusal::Number(0);
-    };
-    r
-}
-
+// The refusal in an answer that gives no figure; number 0, which no refusal has, for none.
 fn worst_refusal(w: Worst) -> Refusal
     ensures { λ r. ⌜ r ≡ worstRefusal w ⌝ }
 {
@@ -367,7 +348,7 @@ pub fn delay(s: Sheet, release: u32, table: &mut [u32]) -> Delay
 {
     let z = schedule::sizes(s);
     let Sizes::Of(size) = z else {
-        return Delay::No(sizes_refusal(z));
+        return Delay::No(schedule::sizes_refusal(z));
     };
     if size.hyperperiod <= release {
         return Delay::No(Refusal::Number(12));
@@ -378,7 +359,7 @@ pub fn delay(s: Sheet, release: u32, table: &mut [u32]) -> Delay
     }
     let filled = schedule::responses(s, &mut *table);
     let Responses::Table(totals) = filled else {
-        return Delay::No(responses_refusal(filled));
+        return Delay::No(schedule::responses_refusal(filled));
     };
     Delay::Ticks(delay_in(s, totals.hyperperiod, release / period, &*table))
 }
@@ -390,7 +371,7 @@ pub fn worst(s: Sheet, table: &mut [u32]) -> Worst
 {
     let filled = schedule::responses(s, &mut *table);
     let Responses::Table(totals) = filled else {
-        return Worst::No(responses_refusal(filled));
+        return Worst::No(schedule::responses_refusal(filled));
     };
     Worst::Is(worst_in(s, totals.hyperperiod, &*table))
 }
@@ -402,7 +383,7 @@ pub fn bound(s: Sheet, table: &mut [u32]) -> Bound
 {
     let filled = schedule::responses(s, &mut *table);
     let Responses::Table(totals) = filled else {
-        return Bound::No(responses_refusal(filled));
+        return Bound::No(schedule::responses_refusal(filled));
     };
     Bound::Ticks(bound_in(s, totals.hyperperiod, &*table))
 }
@@ -415,7 +396,7 @@ pub fn margin(s: Sheet, limit: u32, table: &mut [u32]) -> Margin
     if MOST_LIMIT < limit {
         let z = schedule::sizes(s);
         let Sizes::Of(_) = z else {
-            return Margin::No(sizes_refusal(z));
+            return Margin::No(schedule::sizes_refusal(z));
         };
         return Margin::No(Refusal::Number(13));
     }
@@ -445,7 +426,7 @@ pub fn figures(s: Sheet, table: &mut [u32]) -> TaskFigures
     let answer = filled.answer;
     let greatest = filled.greatest;
     let Responses::Table(totals) = answer else {
-        let refusal = responses_refusal(answer);
+        let refusal = schedule::responses_refusal(answer);
         return TaskFigures {
             answer: Figures::No(refusal),
             greatest,

@@ -1,10 +1,10 @@
 // Runs the chain's calls on document 01's sheets, on chains that go far beyond H, and where two faults meet. Each line is a call's
 // answer and the whole table after it; the expected output comes from a model that goes tick by tick.
+use answers::Refusal;
 use chain::Bound;
 use chain::Delay;
 use chain::Margin;
 use chain::Worst;
-use sheet::Refusal;
 use sheet::Sheet;
 use theory::Task;
 ghost use Prim.Native.Nat.{_≤_};

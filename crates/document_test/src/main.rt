@@ -1,14 +1,14 @@
 // Runs every call on every sheet of standard input, each a length and so many bytes, and prints what each answers.
 ghost use Prim.Native.Nat.{_<_};
+use answers::Refusal;
+use answers::Verdict;
 use chain::Bound;
 use chain::Delay;
 use chain::Margin;
 use chain::Worst;
 use schedule::Responses;
 use schedule::Sizes;
-use sheet::Refusal;
 use sheet::Sheet;
-use sheet::Verdict;
 use sheet::Written;
 
 fn wide(x: u32) -> u64 {

@@ -20,7 +20,7 @@ use Rattle.theory.specs.Analysis.Clearing.{clearing, response-clearing, clearin
 use Rattle.theory.specs.Analysis.Evaluation.{worst-clearing, worst-release-clearing, bound-clearing}
 use Rattle.theory.specs.Model.Chain.{Chain, worst, worstRelease, bound}
 use Rattle.sheet.specs.declared.Sheet.{Sheet}
-use Rattle.sheet.specs.Answers.{Answer, given, refused, Judgement, fine, when, after, also}
+use Rattle.answers.specs.Answers.{Answer, given, refused, Judgement, fine, when, after, also}
 use Rattle.sheet.specs.Calls.{judgeOf}
 use Rattle.sheet.specs.Sound.{judged-sound}
 use Rattle.schedule.specs.Answer.{tasksOf, mostTicks, mostJobs, lateTask, lateGreatest, lateness, sizesOf, responsesOf, rows}

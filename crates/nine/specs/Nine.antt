@@ -13,7 +13,7 @@ use Rattle.theory.specs.Model.Greatest.{greatest}
 use Rattle.theory.specs.Analysis.Clearing.{clearing}
 use Rattle.theory.specs.Model.Chain.{worst, worstRelease, bound}
 use Rattle.sheet.specs.declared.Sheet.{Sheet}
-use Rattle.sheet.specs.Answers.{Answer, given, refused, first}
+use Rattle.answers.specs.Answers.{Answer, given, refused, first}
 use Rattle.sheet.specs.Fields.{taskFields, entryFields, among}
 use Rattle.sheet.specs.Calls.{places, judgeOf}
 use Rattle.schedule.specs.Answer.{tasksOf}

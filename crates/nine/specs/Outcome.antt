@@ -3,7 +3,7 @@ use mathlib.Core.List.{List}
 use Prim.Native.Nat.{ℕ}
 use lib.ListN.{length}
 use Rattle.sheet.specs.declared.Sheet.{Sheet}
-use Rattle.sheet.specs.Answers.{Answer, given, after}
+use Rattle.answers.specs.Answers.{Answer, given, after}
 use Rattle.schedule.specs.Answer.{tasksOf, mostJobs, responsesOf, rows}
 use Rattle.chain.specs.Answer.{worstOf, boundOf}
 

@@ -15,6 +15,8 @@ use answer::put_words;
 use answer::refused;
 use answer::three;
 use answer::two;
+use answers::Refusal;
+use answers::Verdict;
 use arith::Multiple;
 use chain::Bound;
 use chain::Delay;
@@ -30,9 +32,7 @@ use request::sheet_in;
 use schedule::Responses;
 use schedule::Sizes;
 use schedule::TaskResponses;
-use sheet::Refusal;
 use sheet::Sheet;
-use sheet::Verdict;
 use sheet::Written;
 
 // What each call answers

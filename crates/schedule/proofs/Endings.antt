@@ -10,10 +10,8 @@ use borrow.Author.Tests.{ne-eqb}
 use Rattle.theory.specs.declared.Task.{Task}
 use Rattle.theory.specs.Model.Responses.{allJobs, idleTicks}
 use Rattle.sheet.specs.declared.Sheet.{Sheet}
-use Rattle.sheet.specs.declared.Refusal.{Refusal}
-use Rattle.sheet.specs.declared.Refusal.the-variants.{Number, Late}
-use Rattle.sheet.specs.Answers.{Answer, given, refused}
-use Rattle.sheet.specs.Told.{refusal}
+use Rattle.answers.specs.declared.Refusal.{Refusal}
+use Rattle.answers.specs.Answers.{Answer, given, refused, numberIn, refusal}
 use Rattle.schedule.specs.declared.answer.Totals.{Totals}
 use Rattle.schedule.specs.declared.answer.Size.{Size}
 use Rattle.schedule.specs.declared.answer.Found.the-variants.{Lowest, Late as LateFound}
@@ -35,8 +33,7 @@ module _ (s : Sheet) (old : List ℕ) where
   untouched n l = rw (ne-eqb n 15 (λ z. omega arith))
 
   pub ended-refused : (r : Refusal) → sizesOf s ≡ refusal r → Ended s old (refusal r) old
-  ended-refused (Number n) e = ended (responses-refused s (length old) (Number n) e) (untouched n (omega (arith, sizes-numbered s .most e)))
-  ended-refused (Late i) e = absurd (omega (arith, sizes-numbered s .most e))
+  ended-refused r e = let l : numberIn r ≤ 11 = sizes-numbered s .most e in ended (responses-refused s (length old) r e) (untouched (numberIn r) (omega arith))
 
   module _ {size : Size} (fits : sizesOf s ≡ given size) where
     pub ended-small : length old < size .jobs → Ended s old (refused 14 []) old

@@ -11,9 +11,8 @@ use Rattle.theory.specs.Model.Schedule.{rank, need, release, Slot, idle, busy, 
 use Rattle.theory.specs.Model.Greatest.{greatest}
 use Rattle.theory.specs.Model.Responses.{full, fullBudget, response, hyperperiod, jobs, allJobs, idleTicks, taskResponse}
 use Rattle.sheet.specs.declared.Sheet.{Sheet}
-use Rattle.sheet.specs.Answers.{Answer, given, refused, Judgement, fine, when, after, also}
+use Rattle.answers.specs.Answers.{Answer, given, refused, Judgement, fine, when, after, also, refusal}
 use Rattle.sheet.specs.Calls.{places, judgeOf}
-use Rattle.sheet.specs.Told.{refusal}
 use Rattle.schedule.specs.declared.answer.Totals.{Totals}
 use Rattle.schedule.specs.declared.answer.Responses.{Responses}
 use Rattle.schedule.specs.declared.answer.Responses.the-variants.{Table, No}

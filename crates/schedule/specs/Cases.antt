@@ -10,13 +10,13 @@ use borrow.Author.Tests.{ltb-false, lt-ltb, le-ltb}
 use Rattle.theory.specs.Model.Schedule.{none, Proper, Slot, idle, busy}
 use Rattle.theory.specs.Model.Responses.{hyperperiod, allJobs, idleTicks}
 use Rattle.sheet.specs.declared.Sheet.{Sheet}
-use Rattle.sheet.specs.declared.Refusal.{Refusal}
-use Rattle.sheet.specs.declared.Refusal.the-variants.{Number, Late}
-use Rattle.sheet.specs.Answers.{given, refused, fine, when}
+use Rattle.answers.specs.declared.Refusal.{Refusal}
+use Rattle.answers.specs.Answers.{given, refused, fine, when, refusal}
+use Rattle.answers.specs.AnswerLaws.{when-fine, also-given}
+use Rattle.answers.specs.NumberLaws.{Numbered, given-numbered, refused-numbered, numbered-wider, when-numbered, after-numbered, also-numbered}
 use Rattle.sheet.specs.Calls.{judgeOf}
-use Rattle.sheet.specs.NumberLaws.{Numbered, given-numbered, refused-numbered, numbered-wider, when-numbered, after-numbered, also-numbered, judge-numbered}
-use Rattle.sheet.specs.Told.{refusal}
-use Rattle.sheet.specs.Sound.{Sound, when-fine, also-given}
+use Rattle.sheet.specs.NumberLaws.{judge-numbered}
+use Rattle.sheet.specs.Sound.{Sound}
 use Rattle.schedule.specs.declared.answer.Size.{Size}
 use Rattle.schedule.specs.Answer.{mostTicks, mostJobs, tasksOf, lateGreatest, lateness, sizesOf, responsesOf}
 
@@ -46,8 +46,7 @@ responses-numbered s room =
 module _ (s : Sheet) where
   pub sizes-refused : (r : Refusal) → judgeOf s ≡ refusal r → sizesOf s ≡ refusal r
   unfolding sizesOf
-  sizes-refused (Number n) e = rw e
-  sizes-refused (Late i) e = rw e
+  sizes-refused r e = rw e
 
   pub sizes-over : judgeOf s ≡ fine → mostTicks < hyperperiod (tasksOf s) → sizesOf s ≡ refused 10 []
   unfolding sizesOf
@@ -103,8 +102,7 @@ sound-proper {s} ok = record {
 
 pub responses-refused : (s : Sheet) (room : ℕ) (r : Refusal) → sizesOf s ≡ refusal r → responsesOf s room ≡ refusal r
 unfolding responsesOf
-responses-refused s room (Number n) e = rw e
-responses-refused s room (Late i) e = rw e
+responses-refused s room r e = rw e
 
 module _ (s : Sheet) (room : ℕ) {size : Size} (fits : sizesOf s ≡ given size) where
   pub responses-small : room < size .jobs → responsesOf s room ≡ refused 14 []

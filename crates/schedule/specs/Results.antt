@@ -13,9 +13,10 @@ use Rattle.theory.specs.declared.Task.{Task}
 use Rattle.theory.specs.Model.Schedule.{none, Slot, idle, busy}
 use Rattle.theory.specs.Model.Responses.{hyperperiod, allJobs, idleTicks, Accepted}
 use Rattle.sheet.specs.declared.Sheet.{Sheet}
-use Rattle.sheet.specs.Answers.{Answer, given, refused, fine, when, after, also}
+use Rattle.answers.specs.Answers.{Answer, given, refused, fine, when, after, also}
+use Rattle.answers.specs.AnswerLaws.{when-fine, also-given}
 use Rattle.sheet.specs.Calls.{judgeOf}
-use Rattle.sheet.specs.Sound.{judged-sound, when-fine, also-given}
+use Rattle.sheet.specs.Sound.{judged-sound}
 use Rattle.schedule.specs.declared.answer.Totals.{Totals}
 use Rattle.schedule.specs.declared.answer.Size.{Size}
 use Rattle.schedule.specs.Answer.{mostTicks, mostJobs, tasksOf, lateGreatest, lateness, sizesOf, responsesOf}

@@ -14,9 +14,11 @@ use Rattle.theory.specs.Analysis.Level.{level}
 use Rattle.theory.specs.Analysis.Backlog.{load, drain}
 use Rattle.theory.specs.Analysis.Finish.{FirstZero}
 use Rattle.sheet.specs.declared.Sheet.{Sheet}
-use Rattle.sheet.specs.declared.Refusal.{Refusal}
-use Rattle.sheet.specs.declared.Refusal.the-variants.{Number, Late}
+use Rattle.answers.specs.declared.Refusal.{Refusal}
+use Rattle.answers.specs.declared.Refusal.the-variants.{Number, With}
 use Rattle.sheet.specs.Sound.{Sound}
+use Rattle.schedule.specs.declared.answer.Responses.{Responses}
+use Rattle.schedule.specs.declared.answer.Responses.the-variants.{Table, No as NoTable}
 use Rattle.schedule.specs.declared.answer.Sizes.{Sizes}
 use Rattle.schedule.specs.declared.answer.Sizes.the-variants.{Of, No}
 use Rattle.schedule.specs.declared.answer.Turn.{Turn}
@@ -37,13 +39,17 @@ pub record Period (s : Sheet) (h : ℕ) : Type 0 where
   pub within-limit : h ≤ mostTicks
 
 -- The refusal that an answer holds.
-abbrev pub refusalOf : Sizes → Refusal
-refusalOf (Of size) = Number 0
-refusalOf (No r) = r
+abbrev pub sizesRefusal : Sizes → Refusal
+sizesRefusal (Of size) = Number 0
+sizesRefusal (No r) = r
+
+abbrev pub responsesRefusal : Responses → Refusal
+responsesRefusal (Table totals) = Number 0
+responsesRefusal (NoTable r) = r
 
 abbrev pub lateOf : Found → Refusal
 lateOf (Lowest low rests) = Number 0
-lateOf (LateFound i) = Late i
+lateOf (LateFound i) = With 15 i
 
 -- ---- work that comes in
 

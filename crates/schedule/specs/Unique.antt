@@ -5,7 +5,8 @@ use lib.ListN.{length, getD}
 use Rattle.arith.specs.Ranges.{maximum}
 use Prim.Native.Nat.{ℕ}
 use Rattle.sheet.specs.declared.Sheet.{Sheet}
-use Rattle.sheet.specs.Unique.{refusal-unique, refusal-given}
+use Rattle.answers.specs.AnswerLaws.{refusal-unique}
+use Rattle.answers.specs.AnswerLaws.{refused-given}
 use Rattle.schedule.specs.declared.answer.Responses.{Responses}
 use Rattle.schedule.specs.declared.answer.Responses.the-variants.{Table, No}
 use Rattle.schedule.specs.declared.answer.TaskResponses.{TaskResponses}
@@ -15,8 +16,8 @@ use Rattle.schedule.specs.Answer.{tasksOf, sizesOf, responsesOf, tableAf
 
 told-unique : (x y : Responses) → toldTotals x ≡ toldTotals y → x ≡ y
 told-unique (Table t) (Table u) e = cc
-told-unique (Table t) (No q) e = refusal-given q (sym e)
-told-unique (No r) (Table u) e = refusal-given r e
+told-unique (Table t) (No q) e = refused-given (sym e)
+told-unique (No r) (Table u) e = refused-given e
 told-unique (No r) (No q) e = ap No (refusal-unique r q e)
 
 -- What `responses` promises of its answer and of the table that it leaves.
@@ -32,8 +33,8 @@ sizes-unique s x y p q = size-unique x y (p ∙ sym q)
   where
     size-unique : (x y : Sizes) → toldSize x ≡ toldSize y → x ≡ y
     size-unique (Of t) (Of u) e = cc
-    size-unique (Of t) (NoSize q) e = refusal-given q (sym e)
-    size-unique (NoSize r) (Of u) e = refusal-given r e
+    size-unique (Of t) (NoSize q) e = refused-given (sym e)
+    size-unique (NoSize r) (Of u) e = refused-given e
     size-unique (NoSize r) (NoSize q) e = ap NoSize (refusal-unique r q e)
 
 pub task-responses-unique : {s : Sheet} {old : List ℕ} (x y : TaskResponses) {table table′ : List ℕ}

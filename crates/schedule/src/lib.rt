@@ -12,10 +12,10 @@ pub use answer::Sizes;
 pub use answer::TaskResponses;
 pub use answer::Totals;
 use answer::Turn;
+use answers::Refusal;
+use answers::Verdict;
 use arith::Multiple;
-use sheet::Refusal;
 use sheet::Sheet;
-use sheet::Verdict;
 use theory::Task;
 ghost use mathlib.Core.Path.{_≡_};
 ghost use mathlib.Core.List.{_++_};
@@ -25,9 +25,9 @@ ghost use Rattle.arith.specs.Limit.{told, within};
 ghost use Rattle.arith.specs.Ranges.{maximum};
 ghost use Rattle.theory.specs.Model.Responses.{hyperperiod, jobs, allJobs, taskResponse};
 ghost use Rattle.sheet.specs.Calls.{places};
-ghost use Rattle.sheet.specs.Told.{refusalIn};
+ghost use Rattle.answers.specs.Answers.{refusalIn};
 ghost use Rattle.schedule.specs.Answer.{mostTicks, tasksOf, sizesOf, responsesOf, tableAfter, greatestAfter, toldSize, toldTotals};
-ghost use Rattle.schedule.specs.Steps.{Taken, Period, Holds, refusalOf, lateOf, coming, PlaceOf, Level, Ready, Turned, Walk, Walked, Places, RowFilled, Noted, FoundTo, Filled};
+ghost use Rattle.schedule.specs.Steps.{Taken, Period, Holds, sizesRefusal, responsesRefusal, lateOf, coming, PlaceOf, Level, Ready, Turned, Walk, Walked, Places, RowFilled, Noted, FoundTo, Filled};
 
 // "H at most 1,000,000; J at most 8,192"
 const MOST_TICKS: u32 = 1000000;
@@ -67,23 +67,13 @@ fn job_count(s: Sheet, h: u32) -> u32
     jobs
 }
 
-// The refusal in a verdict that is not fine.
-fn verdict_refusal(v: Verdict) -> Refusal
-    ensures { λ r. ⌜ r ≡ refusalIn v ⌝ }
-{
-    let Verdict::No(r) = v else {
-        return Refusal::Number(0);
-    };
-    r
-}
-
 // H and J, for a sheet that is judged fine and keeps their limits.
 pub fn sizes(s: Sheet) -> Sizes
     ensures { λ r. ⌜ toldSize r ≡ sizesOf s ⌝ }
 {
     let v = sheet::judge(s);
     let Verdict::Fine = v else {
-        return Sizes::No(verdict_refusal(v));
+        return Sizes::No(answers::refusal_of(v));
     };
     let m = hyperperiod(s);
     let Multiple::Is(h) = m else {
@@ -295,14 +285,20 @@ fn clear(table: &mut [u32], n: usize)
     }
 }
 
-// The refusal in an answer that gives no sizes.
-fn sizes_refusal(z: Sizes) -> Refusal
-    ensures { λ r. ⌜ r ≡ refusalOf z ⌝ }
+// The refusal in an answer that gives no sizes. Number 0, which no refusal has, stands for none.
+pub fn sizes_refusal(z: Sizes) -> Refusal
+    ensures { λ r. ⌜ r ≡ sizesRefusal z ⌝ }
 {
     let Sizes::No(r) = z else {
         return Refusal::Number(0);
     };
     r
+}
+
+fn wide(x: u8) -> u32
+    ensures { λ r. ⌜ r ≡ x ⌝ }
+{
+    x as u32
 }
 
 // The refusal of a sheet with a late task.
@@ -312,7 +308,7 @@ fn found_refusal(f: Found) -> Refusal
     let Found::Late(i) = f else {
         return Refusal::Number(0);
     };
-    Refusal::Late(i)
+    Refusal::With(15, wide(i))
 }
 
 // The response of each job before H, "task by task in sheet order, each task's jobs in release order", with H, J and the idle ticks.
@@ -338,6 +334,16 @@ pub fn responses(s: Sheet, table: &mut [u32]) -> Responses
         jobs: size.jobs,
         idle,
     })
+}
+
+// The refusal in an answer that gives no table; number 0 for none.
+pub fn responses_refusal(a: Responses) -> Refusal
+    ensures { λ r. ⌜ r ≡ responsesRefusal a ⌝ }
+{
+    let Responses::No(r) = a else {
+        return Refusal::Number(0);
+    };
+    r
 }
 
 // The greatest entry of a row, 0 of none.

@@ -1,6 +1,6 @@
 // Runs the call on document 01's sheets and on tables of several sizes; the expected output comes from a model that goes tick by tick.
+use answers::Refusal;
 use schedule::Responses;
-use sheet::Refusal;
 use sheet::Sheet;
 use theory::Task;
 ghost use Prim.Native.Nat.{_≤_};

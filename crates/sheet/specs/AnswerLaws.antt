@@ -1,41 +1,15 @@
 -- Laws of answers: what a refusal, or none, on the way comes to.
-use mathlib.Core.Path.{_≡_, refl, sym, ap, _∙_}
-use mathlib.Core.List.{List, []}
+use mathlib.Core.Path.{_≡_, ap}
+use mathlib.Core.List.{[]}
 use Prim.Native.Nat.{ℕ, _+_, _-_, _≤_, _<_}
 use borrow.Author.Tests.{lt-ltb, le-ltb}
 use Rattle.sheet.specs.declared.Sheet.{Sheet}
 use Rattle.sheet.specs.declared.Field.{Field}
-use Rattle.sheet.specs.declared.Refusal.{Refusal}
-use Rattle.sheet.specs.declared.Refusal.the-variants.{Number, Late}
-use Rattle.sheet.specs.declared.Verdict.{Verdict}
-use Rattle.sheet.specs.declared.Verdict.the-variants.{Fine, No}
-use Rattle.sheet.specs.Answers.{Answer, refused, Judgement, fine, when, also, first}
+use Rattle.answers.specs.Answers.{refused, Judgement, fine, when, also, first, refusal}
 use Rattle.sheet.specs.Fields.{width, place, judged}
 use Rattle.sheet.specs.Steps.{next}
 use Rattle.sheet.specs.FieldLaws.{onward, onward-step}
-use Rattle.sheet.specs.Calls.{bufferAfter, judgedIn}
-use Rattle.sheet.specs.Told.{refusal, told, refusalIn, blank, sheetIn}
-
--- ---- a verdict, and what would come after it
-
-pub also-no : {A : Type 0} {v : Verdict} {r : Refusal} {j : Judgement} (a : Answer A) → told v ≡ j → v ≡ No r → also j a ≡ refusal r
-also-no {r = Number n} a e q = ap (λ j. also j a) (sym e ∙ ap told q)
-also-no {r = Late i} a e q = ap (λ j. also j a) (sym e ∙ ap told q)
-
-pub also-fine : {A : Type 0} {v : Verdict} {j : Judgement} (a : Answer A) → told v ≡ j → v ≡ Fine → also j a ≡ a
-also-fine a e q = ap (λ j. also j a) (sym e ∙ ap told q)
-
-pub refusal-is : {v : Verdict} {r q : Refusal} → q ≡ refusalIn v → v ≡ No r → q ≡ r
-refusal-is e p = e ∙ ap refusalIn p
-
--- a refusal leaves a blank sheet, and the buffer as it was
-pub sheetIn-no : (r : Refusal) → sheetIn (refusal r) ≡ blank
-sheetIn-no (Number n) = refl
-sheetIn-no (Late i) = refl
-
-pub bufferAfter-no : (r : Refusal) (s : Sheet) (old : List ℕ) → bufferAfter (refusal r) s old ≡ old
-bufferAfter-no (Number n) s old = refl
-bufferAfter-no (Late i) s old = refl
+use Rattle.sheet.specs.Calls.{judgedIn}
 
 -- ---- the first of the fields that are left
 

@@ -10,7 +10,7 @@ use Rattle.theory.specs.Model.Schedule.{none}
 use Rattle.sheet.specs.declared.Sheet.{Sheet}
 use Rattle.sheet.specs.declared.Field.{Field}
 use Rattle.sheet.specs.declared.Field.the-variants.{Count, Period, Budget, Rank, Length, Entry}
-use Rattle.sheet.specs.Answers.{Answer, given, refused, Judgement, when, also, first}
+use Rattle.answers.specs.Answers.{Answer, given, refused, Judgement, when, also, first}
 use Rattle.sheet.specs.Fields.{fields, width, place, value, judged}
 
 -- "all sixteen task places and sixteen chain places": the first k as f says, "unused ones zero".

@@ -5,7 +5,7 @@ use Prim.Native.Nat.{ℕ, zero, suc, _+_, _<_}
 use native.Mathlib.Omega.{arith}
 use Rattle.sheet.specs.declared.Field.{Field}
 use Rattle.sheet.specs.declared.Field.the-variants.{Count, Period, Budget, Rank, Length, Entry}
-use Rattle.sheet.specs.Answers.{given, refused, Judgement, fine, also, first}
+use Rattle.answers.specs.Answers.{given, refused, Judgement, fine, also, first}
 use Rattle.sheet.specs.Fields.{taskFields, entryFields, fields}
 
 abbrev pub All : (Field → Type 0) → List Field → Type 0

@@ -8,7 +8,7 @@ use Rattle.theory.specs.Model.Schedule.{none}
 use Rattle.sheet.specs.declared.Sheet.{Sheet}
 use Rattle.sheet.specs.declared.Field.{Field}
 use Rattle.sheet.specs.declared.Field.the-variants.{Count, Period, Budget, Rank, Length, Entry}
-use Rattle.sheet.specs.Answers.{Judgement, when, also}
+use Rattle.answers.specs.Answers.{Judgement, when, also}
 
 -- The order: n, "per task: T, C, rank", m, "per entry: task index".
 unfoldable pub taskFields : ℕ → ℕ → List Field

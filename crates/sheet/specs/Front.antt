@@ -16,7 +16,7 @@ use Rattle.theory.specs.Model.Schedule.{none}
 use Rattle.sheet.specs.declared.Sheet.{Sheet}
 use Rattle.sheet.specs.declared.Field.{Field}
 use Rattle.sheet.specs.declared.Field.the-variants.{Count, Period, Budget, Rank, Length, Entry}
-use Rattle.sheet.specs.Answers.{Answer, given, refused, Judgement, fine, when, also, first}
+use Rattle.answers.specs.Answers.{Answer, given, refused, Judgement, fine, when, also, first}
 use Rattle.sheet.specs.AnswerLaws.{judged-whole}
 use Rattle.sheet.specs.Fields.{taskFields, entryFields, fields, width, place, outside, judged}
 use Rattle.sheet.specs.Calls.{judgeOf, endOf, spelt, taskSpelt, entrySpelt, sheetSpelt, sheetOf, judgedIn, tailOf, readAs, readOf}

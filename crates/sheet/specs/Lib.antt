@@ -1,5 +1,4 @@
--- The reader's part: answers, the format, what the calls answer, and the code's enums read as document 01's answers.
-pub mod Answers
+-- The reader's part: the format, what the calls answer, and the code's enums read as document 01's answers.
 pub mod Fields
 pub mod Calls
 pub mod Told

@@ -4,7 +4,7 @@ use Prim.Native.Nat.{ℕ, _+_, _≤_}
 use native.Mathlib.Omega.{arith}
 use Rattle.sheet.specs.declared.Sheet.{Sheet}
 use Rattle.sheet.specs.declared.Field.the-variants.{Entry}
-use Rattle.sheet.specs.Answers.{first}
+use Rattle.answers.specs.Answers.{first}
 use Rattle.sheet.specs.AnswerLaws.{judged-whole}
 use Rattle.sheet.specs.Fields.{width, place, judged}
 use Rattle.sheet.specs.Calls.{fieldsOf, judgeOf, judgedIn, endOf}

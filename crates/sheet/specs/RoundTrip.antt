@@ -17,7 +17,8 @@ use Rattle.theory.specs.Model.Schedule.{none}
 use Rattle.sheet.specs.declared.Sheet.{Sheet}
 use Rattle.sheet.specs.declared.Field.{Field}
 use Rattle.sheet.specs.declared.Field.the-variants.{Count, Rank, Length, Entry}
-use Rattle.sheet.specs.Answers.{given, fine, when, also, first}
+use Rattle.answers.specs.Answers.{given, fine, when, also, first}
+use Rattle.answers.specs.AnswerLaws.{when-fine, also-given}
 use Rattle.sheet.specs.Fields.{fields, width, place, value, outside, among, judged}
 use Rattle.sheet.specs.FieldLaws.{among-same}
 use Rattle.sheet.specs.Calls.{places, fieldsOf, judgeOf, packed, endOf, sizeOf, spelt, taskSpelt, entrySpelt, sheetSpelt, sheetOf, judgedIn, tailOf, readAs, readOf}
@@ -25,7 +26,7 @@ use Rattle.sheet.specs.PlaceLaws.{places-every, places-taken, places-sam
 use Rattle.sheet.specs.EachLaws.{All, Each, all-map, each-all, all-each, first-same, first-fine, all-first}
 use Rattle.sheet.specs.FormatLaws.{fields-in-place, widths-fields, length-bits-of, written-spelt, spelt-written}
 use Rattle.sheet.specs.RoomLaws.{roomy}
-use Rattle.sheet.specs.Sound.{Sound, judged-sound, when-fine, also-given}
+use Rattle.sheet.specs.Sound.{Sound, judged-sound}
 
 -- The bytes of a sheet.
 abbrev pub encoded : Sheet → List ℕ

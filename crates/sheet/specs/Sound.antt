@@ -9,20 +9,13 @@ use lib.Dec.{ltb, leb, eqb}
 use borrow.Author.Tests.{ltb-false, leb-false, eqb-false}
 use Rattle.sheet.specs.declared.Sheet.{Sheet}
 use Rattle.sheet.specs.declared.Field.the-variants.{Period, Budget, Rank, Entry}
-use Rattle.sheet.specs.Answers.{Answer, given, refused, Judgement, fine, when, also}
+use Rattle.answers.specs.Answers.{fine, when}
+use Rattle.answers.specs.AnswerLaws.{when-fine, also-given}
 use Rattle.sheet.specs.Fields.{value, outside, among, judged}
 use Rattle.sheet.specs.Calls.{fieldsOf, judgeOf}
 use Rattle.sheet.specs.EachLaws.{Each, all-each, first-fine}
 
 -- ---- from a judgement to its fact
-
-pub when-fine : (b : Bool) (number : ℕ) → when b number ≡ fine → b ≡ false
-when-fine true number e = let z : _≡_ {A = ℕ} 0 1 = cc in absurd (omega arith)
-when-fine false number e = refl
-
-pub also-given : {A : Type 0} (j : Judgement) (a : Answer A) {x : A} → also j a ≡ given x → (j ≡ fine) × (a ≡ given x)
-also-given (given u) a e = (refl, e)
-also-given (refused number values) a e = let z : _≡_ {A = ℕ} 0 1 = cc in absurd (omega arith)
 
 inside : (low high v : ℕ) → outside low high v ≡ false → (low ≤ v) × (v ≤ high)
 inside low high v e = go (ltb v low) refl e

@@ -1,6 +1,8 @@
 // The timing sheet: read from bytes, judged in memory, written to bytes. Its format is one list of fields, each with a width, a
 // place, a value and a judgement (specs/Fields.antt); what the calls answer is said over that list (specs/Calls.antt), and that
 // writing and reading are inverse is proved of it (specs/RoundTrip.antt).
+use answers::Refusal;
+use answers::Verdict;
 use theory::Task;
 ghost use mathlib.Core.Path.{_≡_};
 ghost use Prim.Native.Nat.{_*_, _<_, _≤_, min};
@@ -8,11 +10,11 @@ ghost use lib.ListN.{length, getD};
 ghost use lib.Seq.{sets};
 ghost use Rattle.bits.specs.Bits.{unpack};
 ghost use Rattle.theory.specs.Model.Schedule.{none};
-ghost use Rattle.sheet.specs.Answers.{when, first};
+ghost use Rattle.answers.specs.Answers.{when, first, told, refusalIn};
 ghost use Rattle.sheet.specs.Fields.{width, place, value, outside, among, judged};
 ghost use Rattle.sheet.specs.Steps.{opening, next, index, nth};
 ghost use Rattle.sheet.specs.Calls.{places, fieldsOf, judgedIn, judgeOf, packed, endOf, writeOf, bufferAfter, spelt, taskSpelt, entrySpelt, sheetOf, tailOf, readOf};
-ghost use Rattle.sheet.specs.Told.{told, toldSheet, toldBytes, refusalIn, blank, sheetIn};
+ghost use Rattle.sheet.specs.Told.{toldSheet, toldBytes, blank, sheetIn};
 ghost use Rattle.sheet.specs.declared.Field.the-variants.{Rank, Entry};
 
 pub struct Sheet {
@@ -20,17 +22,6 @@ pub struct Sheet {
     pub chain: [u8; 16],
     pub count: u8,
     pub length: u8,
-}
-
-// A number of document 01's table; 15 comes with the late task.
-pub enum Refusal {
-    Number(u8),
-    Late(u8),
-}
-
-pub enum Verdict {
-    Fine,
-    No(Refusal),
 }
 
 pub struct Reading {
@@ -434,22 +425,13 @@ fn put_fields(out: &mut [u8], s: Sheet)
     }
 }
 
-fn refusal_in(v: Verdict) -> Refusal
-    ensures { λ r. ⌜ r ≡ refusalIn v ⌝ }
-{
-    match v {
-        Verdict::Fine => Refusal::Number(0),
-        Verdict::No(r) => r,
-    }
-}
-
 // The sheet's bytes at the front of a buffer, and how many they are.
 pub fn write(s: Sheet, out: &mut [u8]) -> Written
     ensures { λ r. ⌜ (toldBytes r ≡ writeOf s (length (now (out .entry)))) × (now (out .exit) ≡ bufferAfter (toldBytes r) s (now (out .entry))) ⌝ }
 {
     let v = judge(s);
     let Verdict::Fine = v else {
-        return Written::No(refusal_in(v));
+        return Written::No(answers::refusal_of(v));
     };
     let end = end_of(s);
     let size = (end + 7) / 8;

@@ -1,8 +1,8 @@
 // Runs the sheet's calls on the requests of standard input and prints what each answers and leaves in the buffer.
 // A request is `r`, a length and so many bytes to read; or `w`, a buffer's length and a sheet's 162 bytes, field by field, to write.
-use sheet::Refusal;
+use answers::Refusal;
+use answers::Verdict;
 use sheet::Sheet;
-use sheet::Verdict;
 use sheet::Written;
 use theory::Task;
 

@@ -1,7 +1,7 @@
 -- Bytes that are refused end the call; else it ends as its namesake does with the sheet.
 use mathlib.Core.Path.{ap, _∙_}
 use lib.ListN.{length}
-use Rattle.sheet.specs.Answers.{given, after}
+use Rattle.answers.specs.Answers.{given, after}
 use Rattle.chain.specs.Answer.{defaultMarginOf}
 use Rattle.bellkettle.specs.Answer.{signed}
 use Rattle.bellkettle.specs.Steps.{toldOutcome}

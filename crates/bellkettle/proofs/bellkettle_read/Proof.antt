@@ -2,7 +2,7 @@
 use mathlib.Core.Path.{ap₂, _∙_}
 use mathlib.Core.List.{[], _∷_}
 use lib.IntN.{pos}
-use Rattle.sheet.specs.Answers.{given}
+use Rattle.answers.specs.Answers.{given}
 use Rattle.bellkettle.specs.declared.Outcome.the-variants.{Two}
 use Rattle.bellkettle.specs.Answer.{countsOf, periodsIn, budgetsIn, ranksIn, entriesIn, sixteen}
 use Rattle.bellkettle.specs.Endings.{returned-no, returned-given, untouched, touched}

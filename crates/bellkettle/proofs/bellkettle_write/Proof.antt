@@ -1,7 +1,7 @@
 -- The sheet that the fields make is written, and its size, at most 94, handed over.
 use mathlib.Core.Path.{ap, _∙_}
 use lib.ListN.{length}
-use Rattle.sheet.specs.Answers.{given, after}
+use Rattle.answers.specs.Answers.{given, after}
 use Rattle.sheet.specs.Calls.{writeOf, bufferAfter}
 use Rattle.bellkettle.specs.Answer.{alone, written}
 use Rattle.bellkettle.specs.Steps.{toldOutcome}

@@ -2,12 +2,11 @@
 use mathlib.Core.Path.{_≡_, sym, ap, _∙_}
 use lib.ListN.{length}
 use borrow.Author.Needs.{needs}
-use Rattle.sheet.specs.Answers.{given}
-use Rattle.sheet.specs.Told.{refusal}
+use Rattle.answers.specs.Answers.{given, refusal}
 use Rattle.schedule.specs.Answer.{tasksOf, responsesOf, toldTotals}
 use Rattle.schedule.specs.Results.{responses-given}
 use Rattle.chain.specs.Answer.{boundOf}
-use Rattle.chain.specs.Steps.{responsesRefusal}
+use Rattle.schedule.specs.Steps.{responsesRefusal}
 use Rattle.chain.specs.Cases.{filled-taken, table-leaves, ended-no, ended-given}
 use Rattle.schedule.specs.Results.{filled-holds}
 use Rattle.chain.proofs.bound.Statement.{statement}

@@ -6,15 +6,14 @@ use lib.ListN.{length}
 use borrow.Author.Needs.{needs}
 use Rattle.theory.specs.Model.Schedule.{period}
 use Rattle.theory.specs.Model.Responses.{hyperperiod}
-use Rattle.sheet.specs.Answers.{given, after}
+use Rattle.answers.specs.Answers.{given, after, refusal}
 use Rattle.sheet.specs.Sound.{Sound, judged-sound}
-use Rattle.sheet.specs.Told.{refusal}
 use Rattle.schedule.specs.Answer.{tasksOf, sizesOf, responsesOf, toldSize, toldTotals}
 use Rattle.schedule.specs.Cases.{sizes-given}
 use Rattle.schedule.specs.Results.{responses-given}
-use Rattle.schedule.specs.Steps.{refusalOf}
+use Rattle.schedule.specs.Steps.{sizesRefusal}
 use Rattle.chain.specs.Answer.{chainOf, firstOf, delayAt, delayOf}
-use Rattle.chain.specs.Steps.{responsesRefusal}
+use Rattle.schedule.specs.Steps.{responsesRefusal}
 use Rattle.chain.specs.SheetLaws.{job-early, job-release}
 use Rattle.chain.specs.Cases.{filled-taken, table-leaves, ended-no, ended-given, ended-number, sizes-untouched, delay-beyond, delay-between, delay-asked}
 use Rattle.schedule.specs.Results.{filled-holds}
@@ -62,7 +61,7 @@ returns c =
     let a = c .before .before .before .before .before .args in
     let no = c .before .enum-told .given .1 in
     let e : sizesOf (a .s) ≡ refusal (c .sizes-refusal .result) =
-    sym (c .before .before .before .sizes .ensures) ∙ ap toldSize no ∙ ap refusal (sym (c .sizes-refusal .ensures ∙ ap refusalOf no)) in
+    sym (c .before .before .before .sizes .ensures) ∙ ap toldSize no ∙ ap refusal (sym (c .sizes-refusal .ensures ∙ ap sizesRefusal no)) in
     ended-no (tasksOf (a .s)) (a .table .now) _ (c .sizes-refusal .result) e (sizes-untouched (a .s) (a .table .now) (c .sizes-refusal .result) e)
 
 returns-2 : tie.Need-returns-2

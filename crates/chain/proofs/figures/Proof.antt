@@ -6,14 +6,14 @@ use mir.Syntax.{w32}
 use mir.ValLaws.{toZ-ofZ}
 use borrow.Author.Needs.{needs}
 use Rattle.theory.specs.Model.Responses.{hyperperiod}
-use Rattle.sheet.specs.Answers.{given}
-use Rattle.sheet.specs.Told.{refusal}
+use Rattle.answers.specs.Answers.{given, refusal}
 use Rattle.schedule.specs.Answer.{tasksOf, responsesOf, toldTotals}
 use Rattle.schedule.specs.Results.{responses-given, filled-holds}
 use Rattle.schedule.specs.Steps.{Holds}
 use Rattle.chain.specs.declared.answer.Summary.{Summary}
 use Rattle.chain.specs.Answer.{chainOf, summaryOf, figuresOf}
-use Rattle.chain.specs.Steps.{Taken, responsesRefusal}
+use Rattle.chain.specs.Steps.{Taken}
+use Rattle.schedule.specs.Steps.{responsesRefusal}
 use Rattle.chain.specs.Cases.{filled-taken, table-leaves, ended-no, ended-given}
 use Rattle.chain.specs.Answered.{worst-most}
 use Rattle.chain.proofs.figures.Statement.{statement}

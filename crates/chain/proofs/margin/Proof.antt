@@ -5,10 +5,9 @@ use lib.ListN.{length}
 use mir.Syntax.{w32}
 use mir.ValLaws.{toZ-ofZ}
 use borrow.Author.Needs.{needs}
-use Rattle.sheet.specs.Answers.{given, after}
-use Rattle.sheet.specs.Told.{refusal}
+use Rattle.answers.specs.Answers.{given, after, refusal}
 use Rattle.schedule.specs.Answer.{tasksOf, sizesOf, toldSize}
-use Rattle.schedule.specs.Steps.{refusalOf}
+use Rattle.schedule.specs.Steps.{sizesRefusal}
 use Rattle.chain.specs.Answer.{less, worstOf, marginOf, toldWorst}
 use Rattle.chain.specs.Steps.{worstRefusal}
 use Rattle.chain.specs.Cases.{ended-no, ended-given, ended-number, sizes-untouched, margin-over, margin-asked}
@@ -46,7 +45,7 @@ returns c =
     let a = c .before .before .before .before .before .before .args in
     let no = c .before .enum-told2 .given .1 in
     let e : sizesOf (a .s) ≡ refusal (c .sizes-refusal .result) =
-    sym (c .before .before .before .sizes .ensures) ∙ ap toldSize no ∙ ap refusal (sym (c .sizes-refusal .ensures ∙ ap refusalOf no)) in
+    sym (c .before .before .before .sizes .ensures) ∙ ap toldSize no ∙ ap refusal (sym (c .sizes-refusal .ensures ∙ ap sizesRefusal no)) in
     ended-no (tasksOf (a .s)) (a .table .now) _ (c .sizes-refusal .result) e (sizes-untouched (a .s) (a .table .now) (c .sizes-refusal .result) e)
 
 returns-2 : tie.Need-returns-2

@@ -1,5 +1,6 @@
 -- Of the two cases the late one holds the task.
-use mathlib.Core.Path.{sym, ap}
+use mathlib.Core.Path.{sym, ap, _∙_}
+use Rattle.answers.specs.declared.Refusal.the-variants.{With}
 use Rattle.schedule.specs.Steps.{lateOf}
 use borrow.Author.Needs.{needs}
 use Rattle.schedule.proofs.found_refusal.Statement.{statement}
@@ -14,8 +15,11 @@ enum-told c = search needs
 returns : tie.Need-returns
 returns c = search needs
 
+wide-requires : tie.Need-wide-requires
+wide-requires c κs = search needs
+
 returns-2 : tie.Need-returns-2
-returns-2 c = ap lateOf (sym (c .before .f .given .1))
+returns-2 c = ap (With 15) (c .wide .ensures) ∙ ap lateOf (sym (c .before .before .f .given .1))
 
 pub found-refusal-spec : {M : Type 1} → statement M
-found-refusal-spec = tie.close (tie.spec enum-known-f enum-told returns returns-2)
+found-refusal-spec = tie.close (tie.spec enum-known-f enum-told returns wide-requires returns-2)

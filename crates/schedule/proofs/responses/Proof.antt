@@ -3,12 +3,11 @@ use Rattle.theory.specs.Model.Responses.{allJobs}
 use mathlib.Core.Path.{_≡_, sym, ap, _∙_, subst}
 use native.Mathlib.Omega.{arith}
 use lib.ListN.{length-map}
-use Rattle.sheet.specs.Answers.{given}
-use Rattle.sheet.specs.Told.{refusal}
+use Rattle.answers.specs.Answers.{given, refusal}
 use Rattle.sheet.specs.Sound.{judged-sound}
 use Rattle.schedule.specs.Answer.{tasksOf, sizesOf, toldSize}
 use Rattle.schedule.specs.Cases.{sizes-given}
-use Rattle.schedule.specs.Steps.{Taken, refusalOf, lateOf, Filled}
+use Rattle.schedule.specs.Steps.{Taken, sizesRefusal, lateOf, Filled}
 use Rattle.schedule.proofs.Endings.{ended-refused, ended-small, ended-late, ended-full}
 use borrow.Author.Needs.{needs}
 use Rattle.schedule.proofs.responses.Statement.{statement}
@@ -39,7 +38,7 @@ returns : tie.Need-returns
 returns c =
     let no = c .before .enum-told .given .1 in
     ended-refused (c .before .before .before .before .before .args .s) (c .before .before .before .before .before .args .table .now) (c .sizes-refusal .result)
-    (sym (c .before .before .before .sizes .ensures) ∙ ap toldSize no ∙ ap refusal (sym (c .sizes-refusal .ensures ∙ ap refusalOf no)))
+    (sym (c .before .before .before .sizes .ensures) ∙ ap toldSize no ∙ ap refusal (sym (c .sizes-refusal .ensures ∙ ap sizesRefusal no)))
 
 cast-jobs : tie.Need-cast-jobs
 cast-jobs c = search needs

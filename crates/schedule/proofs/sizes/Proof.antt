@@ -3,11 +3,10 @@ use mathlib.Core.Path.{_≡_, sym, ap, ap₂, _∙_}
 use native.Mathlib.Omega.{arith}
 use lib.ListN.{length-map}
 use Rattle.arith.specs.Limit.{told-is, told-over}
-use Rattle.sheet.specs.declared.Verdict.the-variants.{Fine}
-use Rattle.sheet.specs.Answers.{given, fine}
+use Rattle.answers.specs.declared.Verdict.the-variants.{Fine}
+use Rattle.answers.specs.Answers.{given, fine, refusal, told}
+use Rattle.answers.specs.AnswerLaws.{refusal-is}
 use Rattle.sheet.specs.Calls.{judgeOf}
-use Rattle.sheet.specs.Told.{refusal, told}
-use Rattle.sheet.specs.AnswerLaws.{refusal-is}
 use Rattle.sheet.specs.Sound.{judged-sound}
 use Rattle.schedule.specs.Cases.{sizes-refused, sizes-over, sizes-many, sizes-fit}
 use Rattle.schedule.specs.Answer.{mostTicks}
@@ -32,14 +31,14 @@ enum-told c = search needs
 enum-told-2 : tie.Need-enum-told-2
 enum-told-2 c = search needs
 
-verdict-refusal-requires : tie.Need-verdict-refusal-requires
-verdict-refusal-requires c κs = search needs
+refusal-of-requires : tie.Need-refusal-of-requires
+refusal-of-requires c κs = search needs
 
 returns : tie.Need-returns
 returns c =
     let v = c .before .before .before .judge in
     let no = c .before .enum-told2 .given .1 in
-    sym (sizes-refused (c .before .before .before .before .args .s) (c .verdict-refusal .result) (sym (v .ensures) ∙ ap told no ∙ ap refusal (sym (refusal-is (c .verdict-refusal .ensures) no))))
+    sym (sizes-refused (c .before .before .before .before .args .s) (c .refusal-of .result) (sym (v .ensures) ∙ ap told no ∙ ap refusal (sym (refusal-is (c .refusal-of .ensures) no))))
 
 hyperperiod-requires : tie.Need-hyperperiod-requires
 hyperperiod-requires c κs = taken (c .before .before) (c .enum-told .given .1)
@@ -80,7 +79,7 @@ sizes-spec =
     judge-requires
     enum-told
     enum-told-2
-    verdict-refusal-requires
+    refusal-of-requires
     returns
     hyperperiod-requires
     enum-known-m

@@ -4,9 +4,8 @@ use native.Mathlib.Omega.{arith}
 use lib.ListN.{length, replicate, length-map}
 use Rattle.bits.specs.Bits.{listOf}
 use Rattle.sheet.specs.declared.Sheet.{Sheet}
-use Rattle.sheet.specs.declared.Refusal.{Refusal}
-use Rattle.sheet.specs.declared.Refusal.the-variants.{Number, Late}
-use Rattle.sheet.specs.Told.{refusal}
+use Rattle.answers.specs.declared.Refusal.{Refusal}
+use Rattle.answers.specs.Answers.{refusal}
 use Rattle.sheet.specs.Sound.{judged-sound}
 use Rattle.schedule.specs.Answer.{greatestAfter, toldTotals}
 use Rattle.schedule.specs.Results.{responses-given, filled-holds}
@@ -17,8 +16,7 @@ use Rattle.schedule.proofs.task_responses.Tie as tie
 -- a refusal leaves zeros
 greatest-none : (r : Refusal) (s : Sheet) → replicate 16 0 ≡ greatestAfter (refusal r) s
 unfolding listOf
-greatest-none (Number n) s = refl
-greatest-none (Late i) s = refl
+greatest-none r s = refl
 
 responses-requires : tie.Need-responses-requires
 responses-requires c κs = search needs

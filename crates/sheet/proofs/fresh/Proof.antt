@@ -2,7 +2,7 @@
 use mathlib.Core.Path.{_≡_, sym, ap, _∙_}
 use Prim.Native.Nat.{_-_, _≤_}
 use native.Mathlib.Omega.{arith}
-use Rattle.sheet.specs.Answers.{when}
+use Rattle.answers.specs.Answers.{when}
 use Rattle.sheet.specs.Fields.{among}
 use Rattle.sheet.specs.Steps.{nth}
 use Rattle.sheet.specs.FieldLaws.{among-here, among-past, among-none}

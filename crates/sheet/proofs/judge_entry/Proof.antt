@@ -2,7 +2,7 @@
 use mathlib.Core.Path.{sym, ap, _∙_}
 use native.Mathlib.Omega.{arith}
 use borrow.Author.Tests.{le-leb, lt-leb}
-use Rattle.sheet.specs.Answers.{when, also}
+use Rattle.answers.specs.Answers.{when, also}
 use Rattle.sheet.specs.Fields.{among}
 use Rattle.sheet.specs.Steps.{nth}
 use borrow.Author.Needs.{needs}

@@ -1,6 +1,6 @@
 -- Each arm is the definition's clause for its field.
 use mathlib.Core.Path.{sym, ap, ap₂, _∙_}
-use Rattle.sheet.specs.Answers.{when}
+use Rattle.answers.specs.Answers.{when}
 use Rattle.sheet.specs.Fields.{outside, among, judged}
 use borrow.Author.Needs.{needs}
 use Rattle.sheet.proofs.judge_field.Statement.{statement}

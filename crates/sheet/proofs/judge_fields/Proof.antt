@@ -2,13 +2,13 @@
 use mathlib.Core.Path.{_≡_, sym, ap, ap₂, _∙_}
 use Prim.Native.Nat.{ℕ, _+_, _-_, _*_, _≤_}
 use native.Mathlib.Omega.{arith}
-use Rattle.sheet.specs.Answers.{also, first}
-use Rattle.sheet.specs.AnswerLaws.{also-no, also-fine, first-step, first-none, judged-short, judged-whole}
+use Rattle.answers.specs.Answers.{also, first, told}
+use Rattle.answers.specs.AnswerLaws.{also-no, also-fine}
+use Rattle.sheet.specs.AnswerLaws.{first-step, first-none, judged-short, judged-whole}
 use Rattle.sheet.specs.Fields.{fields, place}
 use Rattle.sheet.specs.Steps.{next, index}
 use Rattle.sheet.specs.FieldLaws.{end-small, index-next, onward, fields-onward}
 use Rattle.sheet.specs.Calls.{fieldsOf, judgedIn}
-use Rattle.sheet.specs.Told.{told}
 use borrow.Author.Needs.{needs}
 use Rattle.sheet.proofs.judge_fields.Statement.{statement}
 use Rattle.sheet.proofs.judge_fields.Tie as tie

@@ -5,13 +5,13 @@ use Prim.Native.Nat.{ℕ}
 use Rattle.bits.specs.Bits.{unpack}
 use Rattle.sheet.specs.declared.Sheet.{Sheet}
 use Rattle.sheet.specs.declared.Reading.{Reading}
-use Rattle.sheet.specs.declared.Refusal.{Refusal}
-use Rattle.sheet.specs.declared.Verdict.{Verdict}
-use Rattle.sheet.specs.declared.Verdict.the-variants.{No}
-use Rattle.sheet.specs.Answers.{given, also}
-use Rattle.sheet.specs.AnswerLaws.{also-no, also-fine, sheetIn-no}
+use Rattle.answers.specs.declared.Refusal.{Refusal}
+use Rattle.answers.specs.declared.Verdict.{Verdict}
+use Rattle.answers.specs.declared.Verdict.the-variants.{No}
+use Rattle.answers.specs.Answers.{given, also, refusal}
+use Rattle.answers.specs.AnswerLaws.{also-no, also-fine}
 use Rattle.sheet.specs.Calls.{tailOf, endOf, sheetOf, readAs, readOf}
-use Rattle.sheet.specs.Told.{refusal, toldSheet, blank, sheetIn}
+use Rattle.sheet.specs.Told.{toldSheet, blank, sheetIn}
 use borrow.Author.Needs.{needs}
 use Rattle.sheet.proofs.read.Statement.{statement}
 use Rattle.sheet.proofs.read.Tie as tie
@@ -22,7 +22,7 @@ no : (bytes : List ℕ) (s : Sheet) (v : Verdict) (r : Refusal) (x : Reading) �
 unfolding readOf
 no bytes s v r x q h p w =
     let e : readOf bytes ≡ refusal r = ap (readAs bytes) (sym q) ∙ h in
-    (also-no (given (x .sheet)) refl (w .0 ∙ p) ∙ sym e, w .1 ∙ sym (ap sheetIn e ∙ sheetIn-no r))
+    (also-no (given (x .sheet)) refl (w .0 ∙ p) ∙ sym e, w .1 ∙ sym (ap sheetIn e))
 
 spell-requires : tie.Need-spell-requires
 spell-requires c κs = search needs

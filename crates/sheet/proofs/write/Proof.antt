@@ -12,11 +12,10 @@ use Rattle.bits.specs.Laws.{length-bits, zero-bits}
 use Rattle.bits.specs.Lists.{sets-append}
 use Rattle.bits.specs.Bytes.{written-is}
 use Rattle.sheet.specs.declared.Sheet.{Sheet}
-use Rattle.sheet.specs.Answers.{Answer, given, when, also}
-use Rattle.sheet.specs.AnswerLaws.{also-no, also-fine, refusal-is, bufferAfter-no}
+use Rattle.answers.specs.Answers.{Answer, given, when, also, refusal}
+use Rattle.answers.specs.AnswerLaws.{also-no, also-fine, refusal-is}
 use Rattle.sheet.specs.FormatLaws.{length-bits-of}
 use Rattle.sheet.specs.Calls.{fieldsOf, bitsOf, endOf, sizeOf, writeOf}
-use Rattle.sheet.specs.Told.{refusal}
 use borrow.Author.Needs.{needs}
 use Rattle.sheet.proofs.write.Statement.{statement}
 use Rattle.sheet.proofs.write.Tie as tie
@@ -34,16 +33,16 @@ enum-told c = search needs
 enum-told-2 : tie.Need-enum-told-2
 enum-told-2 c = search needs
 
-refusal-in-requires : tie.Need-refusal-in-requires
-refusal-in-requires c κs = search needs
+refusal-of-requires : tie.Need-refusal-of-requires
+refusal-of-requires c κs = search needs
 
 returns : tie.Need-returns
 unfolding writeOf
 returns c =
     let a = c .before .before .before .before .before .args in
     let p = c .before .enum-told2 .given .1 in
-    let e = ap refusal (refusal-is (c .refusal-in .ensures) p) in
-    (e ∙ sym (also-no (afterwards (a .s) (length (a .out .now))) (c .before .before .before .judge .ensures) p), sym (bufferAfter-no (c .refusal-in .result) (a .s) (a .out .now)))
+    let e = ap refusal (refusal-is (c .refusal-of .ensures) p) in
+    (e ∙ sym (also-no (afterwards (a .s) (length (a .out .now))) (c .before .before .before .judge .ensures) p), refl)
 
 end-of-requires : tie.Need-end-of-requires
 end-of-requires c κs = search needs
@@ -114,7 +113,7 @@ write-spec =
     judge-requires
     enum-told
     enum-told-2
-    refusal-in-requires
+    refusal-of-requires
     returns
     end-of-requires
     add-size

@@ -13,5 +13,7 @@ pub mod NeverLater
 -- The laws of the chain.
 pub mod ChainLaws
 pub mod Paths
+-- The laws of the readings that it carries.
+pub mod ReadingLaws
 -- Figures of given sheets by evaluation.
 pub mod Evaluation

@@ -1,4 +1,4 @@
--- The reader's part: what a schedule is, what is read from the full-budget one, and how a reading goes along a chain.
+-- What a reader must believe: what a schedule is, what is read from the full-budget one, a chain's figures and paths, and the readings carried.
 pub mod Model
 -- The laws of the schedule and of the chain.
 pub mod Analysis

@@ -3,3 +3,4 @@ pub mod Greatest
 pub mod Simulate
 pub mod Responses
 pub mod Chain
+pub mod Readings

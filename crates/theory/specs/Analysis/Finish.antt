@@ -8,7 +8,7 @@ use native.Mathlib.Decide.{ℕ-discrete}
 use lib.ListN.{length}
 use Rattle.theory.specs.declared.Task.{Task}
 use Rattle.theory.specs.Model.Schedule.{release, rank, Proper, Demands, need, due, Run, done, Pending, Schedule, Starts, Finishes}
-use Rattle.theory.specs.Analysis.Work.{done-busy, done-grows, done-passes, need-step, due-covers, due-most}
+use Rattle.theory.specs.Analysis.Work.{done-busy, done-grows, done-passes, need-step, need-grows, due-covers, due-most}
 use Rattle.theory.specs.Analysis.Backlog.{backlog, backlog-empty, empty-backlog}
 
 -- After tick r the function f is first 0 at z.
@@ -34,14 +34,26 @@ module _ (d : Demands) (run : Run) (i k f : ℕ) (some : 1 ≤ d i k) (worked : 
       let upto : done run i (suc (x .at)) ≡ need d i (suc k) = omega (arith, done-busy run i (x .at) (x .runs-then), x .counts, need-step d i k) in
       (suc (x .at), x .before, record { last = x .at; is-next = refl; runs-last = x .runs-then; done-by = upto })
 
--- It starts once, and finishes once
+-- A later job starts no sooner
+
+pub start-later : {d : Demands} {run : Run} {i k m t u : ℕ} → k ≤ m → Starts d run i k t → Starts d run i m u → t ≤ u
+start-later {d} {run} {i} {k} {m} {t} {u} l p q = let no : ¬ (u < t) = sooner in omega arith
+  where
+    sooner : ¬ (u < t)
+    sooner h = omega (
+      arith,
+      p .done-before,
+      q .done-before,
+      need-grows d i k m l,
+      done-busy run i u (q .runs-first),
+      done-grows run i (suc u) t h,
+    )
+
+-- A job starts once, and finishes once
 
 module _ {d : Demands} {run : Run} {i k : ℕ} where
-  start-once : {t u : ℕ} → Starts d run i k t → Starts d run i k u → ¬ (u < t)
-  start-once {t} {u} p q l = omega (arith, p .done-before, q .done-before, done-busy run i u (q .runs-first), done-grows run i (suc u) t l)
-
   pub start-unique : {t u : ℕ} → Starts d run i k t → Starts d run i k u → t ≡ u
-  start-unique p q = omega (arith, start-once p q, start-once q p)
+  start-unique p q = le-antisymm (start-later (le-refl _) p q) (start-later (le-refl _) q p)
 
   finish-last : {f : ℕ} (fin : Finishes d run i k f) → suc (done run i (fin .last)) ≡ need d i (suc k)
   finish-last fin = omega (arith, fin .done-by, ap (done run i) (fin .is-next), done-busy run i (fin .last) (fin .runs-last))
@@ -55,6 +67,18 @@ module _ {d : Demands} {run : Run} {i k : ℕ} where
 
   pub finish-unique : {f g : ℕ} → Finishes d run i k f → Finishes d run i k g → f ≡ g
   finish-unique {f} {g} p q = le-antisymm (finish-least p g (omega (arith, q .done-by))) (finish-least q f (omega (arith, p .done-by)))
+
+-- A later job finishes no sooner,
+pub finish-later : {d : Demands} {run : Run} {i k m f g : ℕ} → k ≤ m → Finishes d run i k f → Finishes d run i m g → f ≤ g
+finish-later {d} {run} {i} {k} {m} {f} {g} l x y =
+    finish-least x g (omega (arith, y .done-by, need-grows d i (suc k) (suc m) (omega arith)))
+
+-- and what finishes no sooner is no earlier job.
+pub finish-order : {d : Demands} {run : Run} {i k m f g : ℕ} → 1 ≤ d i k → Finishes d run i k f → Finishes d run i m g → f ≤ g → k ≤ m
+finish-order {d} {run} {i} {k} {m} {f} {g} some x y l = let no : ¬ (m < k) = earlier in omega arith
+  where
+    earlier : ¬ (m < k)
+    earlier h = omega (arith, x .done-by, y .done-by, done-grows run i f g l, need-step d i k, need-grows d i (suc m) k h)
 
 module _ {ts : List Task} (good : Proper ts) {d : Demands} {run : Run} (s : Schedule ts d run) (i k : ℕ) (known : i < length ts) where
   -- A job starts at or after its release, and finishes after it.

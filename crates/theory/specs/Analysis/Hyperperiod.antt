@@ -1,7 +1,7 @@
 -- Laws of the hyperperiod: the least common multiple of the periods, and a whole number of jobs of each task.
 use mathlib.Core.Path.{_≡_, ap}
 use mathlib.Core.List.{List, [], _∷_}
-use Prim.Native.Nat.{ℕ, zero, suc, _*_, _/_, _<_, _∣_}
+use Prim.Native.Nat.{ℕ, zero, suc, _*_, _<_, _∣_}
 use native.Mathlib.Nat.{dvd-trans, one-dvd, div-mul-cancel, mul-le-mul-right, lt-of-not-le, pos-of-ne-zero}
 use native.Mathlib.Omega.{arith}
 use lib.ListN.{length}

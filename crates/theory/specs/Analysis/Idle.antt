@@ -10,7 +10,7 @@ use Rattle.arith.specs.RangeLaws.{sum-add, sum-eq, sum-zero, sum-const, sum-poi
 use Rattle.theory.specs.Model.Schedule.{budget, rank, Demands, need, released, due, Slot, idle, busy, Run, runs, done, Schedule}
 use Rattle.theory.specs.Model.Responses.{full, fullBudget, hyperperiod, jobs, rests, idleTicks, Accepted}
 use Rattle.theory.specs.Analysis.Work.{runs-self, runs-other, due-most}
-use Rattle.theory.specs.Analysis.Level.{level, level-add, level-all}
+use Rattle.theory.specs.Analysis.Level.{level-add, level-all}
 use Rattle.theory.specs.Analysis.Backlog.{load, backlog, drain-step, done-most, backlog-unfinished}
 use Rattle.theory.specs.Analysis.Existence.{full-schedule}
 use Rattle.theory.specs.Analysis.Hyperperiod.{jobs-whole}

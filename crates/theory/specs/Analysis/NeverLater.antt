@@ -9,7 +9,7 @@ use lib.ListN.{length}
 use Rattle.theory.specs.declared.Task.{Task}
 use Rattle.theory.specs.Model.Schedule.{period, release, Proper, Demands, Within, need, Run, done, Schedule, Starts, Finishes}
 use Rattle.theory.specs.Model.Responses.{full, response, Accepted}
-use Rattle.theory.specs.Analysis.Backlog.{fullBacklog, backlog, backlog-mono}
+use Rattle.theory.specs.Analysis.Backlog.{fullBacklog, backlog-mono}
 use Rattle.theory.specs.Analysis.Finish.{FirstZero, done-starts, done-finishes, finish-least, finish-unique, zero-done}
 use Rattle.theory.specs.Analysis.ResponseLaws.{response-first-zero, response-finishes}
 use Rattle.theory.specs.Analysis.Repetition.{never-late, response-period}

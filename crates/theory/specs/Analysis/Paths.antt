@@ -1,4 +1,4 @@
--- The path of a reading in a run: there is one, it is no longer than the delay of its chain, and where ranks rise it is as long at full budgets.
+-- The paths of a run: from each job there is one, it is no longer than the delay of its chain, and where ranks rise it is as long at full budgets.
 use mathlib.Core.Path.{_≡_, sym, ap, _∙_, subst}
 use mathlib.Core.Logic.{_≢_}
 use mathlib.Core.List.{List, [], _∷_}

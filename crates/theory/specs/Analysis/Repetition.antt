@@ -14,7 +14,7 @@ use Rattle.theory.specs.Model.Responses.{full, fullBudget, response, hyp
 use Rattle.arith.specs.RangeLaws.{maximum-above}
 use Rattle.theory.specs.Analysis.Work.{due-most}
 use Rattle.theory.specs.Analysis.Level.{level-eq}
-use Rattle.theory.specs.Analysis.Backlog.{fullBacklog, load, drain, backlog, empty-backlog}
+use Rattle.theory.specs.Analysis.Backlog.{fullBacklog, load, drain, empty-backlog}
 use Rattle.theory.specs.Analysis.Finish.{FirstZero}
 use Rattle.theory.specs.Analysis.Existence.{full-schedule}
 use Rattle.theory.specs.Analysis.Hyperperiod.{jobs-whole, jobs-positive, jobs-released}

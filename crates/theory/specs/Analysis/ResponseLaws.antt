@@ -2,7 +2,7 @@
 use mathlib.Core.Path.{_≡_, subst}
 use mathlib.Core.List.{List}
 use mathlib.Core.Bool.{Bool}
-use Prim.Native.Nat.{ℕ, zero, suc, _+_, _-_, _≤_, _<_}
+use Prim.Native.Nat.{ℕ, suc, _+_, _≤_, _<_}
 use native.Mathlib.Nat.{lt-of-not-le, pos-of-ne-zero}
 use native.Mathlib.Omega.{arith}
 use lib.Dec.{leb}
@@ -13,7 +13,7 @@ use Rattle.theory.specs.Model.Schedule.{period, release, Proper, need, R
 use Rattle.theory.specs.Model.Responses.{full, fullBudget, finish, response, Late}
 use Rattle.arith.specs.RangeLaws.{least-within, least-passes, least-first}
 use Rattle.theory.specs.Analysis.Work.{done-grows}
-use Rattle.theory.specs.Analysis.Backlog.{fullBacklog, backlog}
+use Rattle.theory.specs.Analysis.Backlog.{fullBacklog}
 use Rattle.theory.specs.Analysis.Existence.{full-schedule}
 use Rattle.theory.specs.Analysis.Finish.{FirstZero, first-zero-unique, finish-least, zero-done, first-zero-finish, on-time-zero}
 

@@ -1,4 +1,4 @@
--- Handing a reading along a chain of tasks: its delay, the worst figure, the quick bound, and its path in a run. Quotations are from document 01.
+-- A chain of tasks: its delay at a release, the worst figure, the quick bound, and the paths of a run. Quotations are from document 01.
 -- A chain is its first task p and the list of those that follow.
 use mathlib.Core.Logic.{_≢_}
 use mathlib.Core.List.{List, [], _∷_}
@@ -58,20 +58,22 @@ unfolding gcd up
 bound ts R p [] = R p
 bound ts R p (c ∷ rest) = (period ts c - common ts p c) + cond (outranks ts c p) (up (common ts p c) (R p)) 0 + bound ts R c rest
 
--- "A read at tick t has the newest write made at or before t": a read has the write of a job.
-abbrev pub Has : ℕ → ℕ → Type 0
-Has read write = write ≤ read
+-- "A job starts at the first tick it runs, and reads then. It finishes at its last tick plus one, and writes then." A read at tick t may have
+-- a write "made at or before t".
+abbrev pub InTime : ℕ → ℕ → Type 0
+InTime read write = write ≤ read
 
--- A hand-over in a run: job k of p writes when it finishes, and job m of c is the first that starts, and so reads, with that write.
+-- A hand-over in a run: job m of c is the first that starts at or after the write of job k of p.
 pub record HandOver (d : Demands) (run : Run) (p c k m : ℕ) : Type 0 where
   pub write : ℕ
   pub finishes : Finishes d run p k write
   pub read : ℕ
   pub starts : Starts d run c m read
-  pub in-time : Has read write
-  pub first : (x t : ℕ) → Starts d run c x t → Has t write → m ≤ x
+  pub in-time : InTime read write
+  pub first : (x t : ℕ) → Starts d run c x t → InTime t write → m ≤ x
 
--- The path of a reading from job k of p on: it is handed over from task to task, and ends when the last job finishes, at f.
+-- The path from job k of p on goes by hand-overs from task to task, and ends when its last job finishes, at f.
+-- Which reading that job carries is said by `Carries` (`Readings`): newer ones may overtake a path.
 abbrev pub PathEnds : Demands → Run → ℕ → List ℕ → ℕ → ℕ → Type 0
 PathEnds d run p [] k f = Finishes d run p k f
 PathEnds d run p (c ∷ rest) k f = (m : ℕ) × HandOver d run p c k m × PathEnds d run c rest m f

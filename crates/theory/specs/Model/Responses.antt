@@ -1,6 +1,6 @@
 -- The full-budget schedule, and what is read from it: responses, hyperperiod, idle ticks, lateness. Quotations are from document 01.
 use mathlib.Core.List.{List, [], _∷_}
-use Prim.Native.Nat.{ℕ, suc, _+_, _-_, _/_, _<_}
+use Prim.Native.Nat.{ℕ, suc, _-_, _/_, _<_}
 use lib.Dec.{leb}
 use lib.ListN.{length}
 use Rattle.arith.specs.Whole.{lcm}

@@ -1,9 +1,7 @@
--- One answer and one content of the table for each input of `delay`, `worst`, `bound`, `margin`, `default_margin`, `figures` and
--- `magnitude`.
+-- One answer and one content of the table for each input of `delay`, `worst`, `bound`, `margin`, `default_margin` and `figures`.
 use mathlib.Core.Path.{_≡_, sym, ap, ap₂, _∙_}
 use mathlib.Core.List.{List}
 use Prim.Native.Nat.{ℕ}
-use lib.IntN.{ℤ, natAbs}
 use lib.ListN.{length}
 use Rattle.sheet.specs.declared.Sheet.{Sheet}
 use Rattle.answers.specs.AnswerLaws.{refusal-unique}
@@ -82,6 +80,3 @@ module _ (s : Sheet) (old table table′ : List ℕ) where
       → Ended (figuresOf s (length old)) (tasksOf s) old (toldFigures (y .answer)) table′ → y .greatest ≡ greatestAfter (responsesOf s (length old)) s → (x ≡ y) × (table ≡ table′)
   figures-unique x y p h q g =
       (ap₂ (λ a m. record { answer = a; greatest = m }) (figures-told (x .answer) (y .answer) (p .0 ∙ sym (q .0))) (h ∙ sym g), p .1 ∙ sym (q .1))
-
-pub magnitude-unique : (z : ℤ) (x y : ℕ) → x ≡ natAbs z → y ≡ natAbs z → x ≡ y
-magnitude-unique z x y p q = p ∙ sym q

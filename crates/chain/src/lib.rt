@@ -17,10 +17,8 @@ use schedule::Responses;
 use schedule::Sizes;
 use sheet::Sheet;
 ghost use mathlib.Core.Path.{_≡_};
-ghost use lib.IntN.{natAbs};
 ghost use Prim.Native.Nat.{_+_, _*_, _≤_, _<_};
 ghost use lib.ListN.{length, getD};
-ghost use Rattle.arith.specs.Ranges.{maximum};
 ghost use Rattle.theory.specs.Model.Responses.{hyperperiod, jobs};
 ghost use Rattle.theory.specs.Model.Schedule.{period, release};
 ghost use Rattle.theory.specs.Model.Chain.{bound};
@@ -214,7 +212,7 @@ fn task_response(i: usize, starts: &[u32; 16], counts: &[u32; 16], table: &[u32]
 {
     let from = starts[i] as usize;
     let end = from + counts[i] as usize;
-    schedule::greatest(&table[from..end])
+    arith::greatest(&table[from..end])
 }
 
 // What a pair of neighbours adds to the quick bound.
@@ -445,15 +443,4 @@ pub fn figures(s: Sheet, table: &mut [u32]) -> TaskFigures
         answer: Figures::Of(summary),
         greatest,
     }
-}
-
-// How far a margin is from zero.
-pub fn magnitude(z: i32) -> u64
-    ensures { λ r. ⌜ r ≡ natAbs z ⌝ }
-{
-    let ticks = z as i64;
-    if ticks < 0 {
-        return (0 - ticks) as u64;
-    }
-    ticks as u64
 }

@@ -97,7 +97,7 @@ fn print_margin(m: Margin) {
             if ticks < 0 {
                 print_text(b"-");
             }
-            io::print_decimal(1, chain::magnitude(ticks));
+            io::print_decimal(1, arith::magnitude(ticks));
         }
         Margin::No(r) => print_refusal(r),
     }

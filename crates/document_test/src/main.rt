@@ -115,7 +115,7 @@ fn print_margin(m: Margin) {
             if z < 0 {
                 io::write_all(1, b"-");
             }
-            io::print_decimal(1, chain::magnitude(z));
+            io::print_decimal(1, arith::magnitude(z));
         }
         Margin::No(r) => print_refusal(r),
     }
@@ -128,7 +128,7 @@ fn print_greatest(greatest: [u32; 16], table: &[u32]) {
     print_number(b" ", greatest[1]);
     print_number(b" ", greatest[2]);
     print_number(b" ", greatest[3]);
-    print_number(b" of ", schedule::greatest(table));
+    print_number(b" of ", arith::greatest(table));
 }
 
 fn try_delays(s: Sheet, table: &mut [u32]) {

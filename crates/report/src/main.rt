@@ -25,7 +25,7 @@ fn print_signed(label: &[u8], n: i32) {
     if n < 0 {
         io::write_all(1, b"-");
     }
-    io::print_decimal(1, chain::magnitude(n));
+    io::print_decimal(1, arith::magnitude(n));
 }
 
 fn print_refusal(r: Refusal) {

@@ -1,8 +1,7 @@
--- One answer and one content of the table for each input of `sizes`, `responses`, `task_responses` and `greatest`.
+-- One answer and one content of the table for each input of `sizes`, `responses` and `task_responses`.
 use mathlib.Core.Path.{_≡_, sym, ap, ap₂, _∙_}
 use mathlib.Core.List.{List}
-use lib.ListN.{length, getD}
-use Rattle.arith.specs.Ranges.{maximum}
+use lib.ListN.{length}
 use Prim.Native.Nat.{ℕ}
 use Rattle.sheet.specs.declared.Sheet.{Sheet}
 use Rattle.answers.specs.AnswerLaws.{refusal-unique}
@@ -43,6 +42,3 @@ pub task-responses-unique : {s : Sheet} {old : List ℕ} (x y : TaskResponses) {
 task-responses-unique x y p h q g =
     let e = responses-unique p q in
     (ap₂ (λ a m. record { answer = a; greatest = m }) (e .0) (h ∙ sym g), e .1)
-
-pub greatest-unique : (row : List ℕ) (x y : ℕ) → x ≡ maximum (length row) (λ k. getD row k 0) → y ≡ maximum (length row) (λ k. getD row k 0) → x ≡ y
-greatest-unique row x y p q = p ∙ sym q

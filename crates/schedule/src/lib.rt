@@ -20,9 +20,8 @@ use theory::Task;
 ghost use mathlib.Core.Path.{_≡_};
 ghost use mathlib.Core.List.{_++_};
 ghost use Prim.Native.Nat.{suc, _≤_, _<_};
-ghost use lib.ListN.{getD, length, drop, replicate};
+ghost use lib.ListN.{length, drop, replicate};
 ghost use Rattle.arith.specs.Limit.{told, within};
-ghost use Rattle.arith.specs.Ranges.{maximum};
 ghost use Rattle.theory.specs.Model.Responses.{hyperperiod, jobs, allJobs, taskResponse};
 ghost use Rattle.sheet.specs.Calls.{places};
 ghost use Rattle.answers.specs.Answers.{refusalIn};
@@ -346,21 +345,6 @@ pub fn responses_refusal(a: Responses) -> Refusal
     r
 }
 
-// The greatest entry of a row, 0 of none.
-pub fn greatest(row: &[u32]) -> u32
-    ensures { λ r. ⌜ r ≡ maximum (length (now (row .entry))) (λ k. getD (now (row .entry)) k 0) ⌝ }
-{
-    let mut most = 0u32;
-    let mut k = 0usize;
-    while k < row.len() {
-        if most < row[k] {
-            most = row[k];
-        }
-        k += 1;
-    }
-    most
-}
-
 // R of each task, in sixteen places, from the rows of a table.
 fn greatest_each(s: Sheet, h: u32, table: &[u32]) -> [u32; 16]
     requires { ⌜ Taken s ⌝ ∗ ⌜ Period s h ⌝ ∗ ⌜ Holds (tasksOf s) (now table) ⌝ }
@@ -372,7 +356,7 @@ fn greatest_each(s: Sheet, h: u32, table: &[u32]) -> [u32; 16]
     let mut i = 0usize;
     while i < n {
         let end = from + (h / s.tasks[i].period) as usize;
-        each[i] = greatest(&table[from..end]);
+        each[i] = arith::greatest(&table[from..end]);
         from = end;
         i += 1;
     }

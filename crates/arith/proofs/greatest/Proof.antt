@@ -5,10 +5,10 @@ use Prim.Native.Nat.{_-_, _≤_}
 use native.Mathlib.Numerals.{add-one}
 use native.Mathlib.Omega.{arith}
 use lib.ListN.{length, getD}
 use Rattle.arith.specs.Ranges.{maximum}
 use borrow.Author.Needs.{needs}
-use Rattle.schedule.proofs.greatest.Statement.{statement}
-use Rattle.schedule.proofs.greatest.Tie as tie
+use Rattle.arith.proofs.greatest.Statement.{statement}
+use Rattle.arith.proofs.greatest.Tie as tie
 
 abbrev Inv-loop : tie.InvT-loop
 Inv-loop row most₀ k₀ most k = (k ≤ length row) × (most ≡ maximum k (λ j. getD row j 0))

@@ -1,11 +1,17 @@
 -- Laws of answers: what a refusal, or none, on the way comes to.
-use mathlib.Core.Path.{_≡_, ap}
+use mathlib.Core.Path.{_≡_, refl, ap}
 use mathlib.Core.List.{[]}
 use Prim.Native.Nat.{ℕ, _+_, _-_, _≤_, _<_}
 use borrow.Author.Tests.{lt-ltb, le-ltb}
 use Rattle.sheet.specs.declared.Sheet.{Sheet}
 use Rattle.sheet.specs.declared.Field.{Field}
-use Rattle.answers.specs.Answers.{refused, Judgement, fine, when, also, first, refusal}
+use Rattle.sheet.specs.declared.Written.{Written}
+use Rattle.sheet.specs.declared.Written.the-variants.{Bytes, No as NoBytes}
+use Rattle.answers.specs.declared.Verdict.{Verdict}
+use Rattle.answers.specs.declared.Verdict.the-variants.{Fine, No}
+use Rattle.answers.specs.Answers.{given, refused, Judgement, fine, when, also, first, told}
+use Rattle.answers.specs.AnswerLaws.{refused-given}
+use Rattle.sheet.specs.Told.{toldBytes}
 use Rattle.sheet.specs.Fields.{width, place, judged}
 use Rattle.sheet.specs.Steps.{next}
 use Rattle.sheet.specs.FieldLaws.{onward, onward-step}
@@ -29,3 +35,13 @@ module _ (room : ℕ) (s : Sheet) (f : Field) where
 
   pub judged-whole : place (s .count) f + width f ≤ room → judgedIn room s f ≡ judged s f
   judged-whole h = ap (λ b. also (when b 1) (judged s f)) (le-ltb room (place (s .count) f + width f) h)
+
+-- ---- what a given answer tells of the code's
+
+pub given-fine : {A : Type 0} (v : Verdict) (a : A) {b : A} → also (told v) (given a) ≡ given b → v ≡ Fine
+given-fine Fine a e = refl
+given-fine (No r) a e = refused-given e
+
+pub bytes-told : (w : Written) (n : ℕ) → toldBytes w ≡ given n → w ≡ Bytes n
+bytes-told (Bytes m) n e = let q : m ≡ n = cc in ap Bytes q
+bytes-told (NoBytes r) n e = refused-given e

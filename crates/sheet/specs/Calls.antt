@@ -1,10 +1,10 @@
 -- What reading, judging and writing a timing sheet answer, and what they leave in memory.
 use mathlib.Core.Bool.{Bool, cond}
 use mathlib.Core.List.{List, [], _∷_, _++_}
-use Prim.Native.Nat.{ℕ, _+_, _-_, _*_}
+use Prim.Native.Nat.{ℕ, _+_, _-_, _*_, _<_}
 use lib.Dec.{ltb}
-use lib.ListN.{length}
-use Rattle.bits.specs.Bits.{bits, unpack, number, listOf, bytesFor, written}
+use lib.ListN.{length, getD}
+use Rattle.bits.specs.Bits.{bits, unpack, number, listOf, bytesFor, bytesOf, written}
 use Rattle.theory.specs.declared.Task.{Task}
 use Rattle.theory.specs.Model.Schedule.{none}
 use Rattle.sheet.specs.declared.Sheet.{Sheet}
@@ -36,6 +36,10 @@ bitsOf s (f ∷ fs) = bits (width f) (value s f) ++ bitsOf s fs
 abbrev pub packed : Sheet → List Bool
 packed s = bitsOf s (fieldsOf s)
 
+-- The bytes of a sheet.
+abbrev pub encoded : Sheet → List ℕ
+encoded s = bytesOf (packed s)
+
 -- The last field's end.
 abbrev pub endOf : Sheet → ℕ
 endOf s = place (s .count) (Entry (s .length))
@@ -51,6 +55,20 @@ writeOf s room = also (judgeOf s) (also (when (ltb room (sizeOf s)) 14) (given (
 abbrev pub bufferAfter : Answer ℕ → Sheet → List ℕ → List ℕ
 bufferAfter (given size) s old = written (packed s) old
 bufferAfter (refused number values) s old = old
+
+-- "its ranks are 8-bit numbers": what the struct's type says of every sheet in memory.
+abbrev pub RanksFit : Sheet → Type 0
+RanksFit s = (i : ℕ) → value s (Rank i) < 256
+
+-- The sheet with its unused places zero.
+abbrev pub cleared : Sheet → Sheet
+cleared s =
+    record {
+      tasks = places none (s .count) (λ i. getD (s .tasks) i none);
+      chain = places 0 (s .length) (λ i. getD (s .chain) i 0);
+      count = s .count;
+      length = s .length;
+    }
 
 -- ---- bytes read
 

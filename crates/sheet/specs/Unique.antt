@@ -1,25 +1,24 @@
--- One answer and one content of lent memory for each input of `judge`, `read` and `write`.
+-- One input, one answer and one content of lent memory: two that meet a call's promise are equal.
 use mathlib.Core.Path.{_≡_, refl, sym, ap, ap₂, _∙_}
 use mathlib.Core.List.{List}
 use Prim.Native.Nat.{ℕ}
-use lib.ListN.{length}
-use Rattle.sheet.specs.declared.Sheet.{Sheet}
+use Rattle.answers.specs.declared.Refusal.{Refusal}
 use Rattle.answers.specs.declared.Verdict.{Verdict}
 use Rattle.answers.specs.declared.Verdict.the-variants.{Fine, No}
+use Rattle.answers.specs.Answers.{given, also, told}
+use Rattle.answers.specs.AnswerLaws.{refused-given, refusal-unique, told-unique}
+use Rattle.sheet.specs.declared.Sheet.{Sheet}
 use Rattle.sheet.specs.declared.Reading.{Reading}
 use Rattle.sheet.specs.declared.Written.{Written}
 use Rattle.sheet.specs.declared.Written.the-variants.{Bytes, No as NoBytes}
-use Rattle.answers.specs.Answers.{given, also, told}
-use Rattle.answers.specs.AnswerLaws.{refused-given, refusal-unique, told-unique}
-use Rattle.sheet.specs.Calls.{judgeOf, readOf, writeOf, bufferAfter}
-use Rattle.sheet.specs.Told.{toldSheet, toldBytes, sheetIn}
+use Rattle.sheet.specs.Calls.{bufferAfter}
+use Rattle.sheet.specs.Told.{toldBytes}
+use Rattle.sheet.specs.Promises.{Judge, Read, Write, WrittenRefusal}
 
--- ---- the calls
-
-pub judge-unique : (s : Sheet) (v w : Verdict) → told v ≡ judgeOf s → told w ≡ judgeOf s → v ≡ w
+pub judge-unique : (s : Sheet) (v w : Verdict) → Judge s v → Judge s w → v ≡ w
 judge-unique s v w h g = told-unique v w (h ∙ sym g)
 
-pub read-unique : (bytes : List ℕ) (x y : Reading) → (toldSheet x ≡ readOf bytes) × (x .sheet ≡ sheetIn (readOf bytes)) → (toldSheet y ≡ readOf bytes) × (y .sheet ≡ sheetIn (readOf bytes)) → x ≡ y
+pub read-unique : (bytes : List ℕ) (x y : Reading) → Read bytes x → Read bytes y → x ≡ y
 read-unique bytes x y h g =
     ap₂ (λ v s. record { verdict = v; sheet = s }) (verdict (x .verdict) (y .verdict) (h .0 ∙ sym (g .0))) (h .1 ∙ sym (g .1))
   where
@@ -35,9 +34,10 @@ toldBytes-unique (Bytes m) (NoBytes q) e = refused-given (sym e)
 toldBytes-unique (NoBytes r) (Bytes n) e = refused-given e
 toldBytes-unique (NoBytes r) (NoBytes q) e = ap NoBytes (refusal-unique r q e)
 
-pub write-unique : (s : Sheet) (old new other : List ℕ) (v w : Written)
-    → (toldBytes v ≡ writeOf s (length old)) × (new ≡ bufferAfter (toldBytes v) s old)
-    → (toldBytes w ≡ writeOf s (length old)) × (other ≡ bufferAfter (toldBytes w) s old) → (v ≡ w) × (new ≡ other)
+pub write-unique : (s : Sheet) (old new other : List ℕ) (v w : Written) → Write s old v new → Write s old w other → (v ≡ w) × (new ≡ other)
 write-unique s old new other v w h g =
     let e : v ≡ w = toldBytes-unique v w (h .0 ∙ sym (g .0)) in
     (e, h .1 ∙ ap (λ x. bufferAfter (toldBytes x) s old) e ∙ sym (g .1))
+
+pub written-refusal-unique : (w : Written) (r q : Refusal) → WrittenRefusal w r → WrittenRefusal w q → r ≡ q
+written-refusal-unique w r q h g = h ∙ sym g

@@ -6,15 +6,16 @@ use answers::Verdict;
 use theory::Task;
 ghost use mathlib.Core.Path.{_≡_};
 ghost use Prim.Native.Nat.{_*_, _<_, _≤_, min};
-ghost use lib.ListN.{length, getD};
+ghost use lib.ListN.{getD};
 ghost use lib.Seq.{sets};
 ghost use Rattle.bits.specs.Bits.{unpack};
 ghost use Rattle.theory.specs.Model.Schedule.{none};
-ghost use Rattle.answers.specs.Answers.{when, first, told, refusalIn};
+ghost use Rattle.answers.specs.Answers.{when, first, told};
 ghost use Rattle.sheet.specs.Fields.{width, place, value, outside, among, judged};
 ghost use Rattle.sheet.specs.Steps.{opening, next, index, nth};
-ghost use Rattle.sheet.specs.Calls.{places, fieldsOf, judgedIn, judgeOf, packed, endOf, writeOf, bufferAfter, spelt, taskSpelt, entrySpelt, sheetOf, tailOf, readOf};
-ghost use Rattle.sheet.specs.Told.{toldSheet, toldBytes, blank, sheetIn};
+ghost use Rattle.sheet.specs.Calls.{places, fieldsOf, judgedIn, packed, endOf, spelt, taskSpelt, entrySpelt, sheetOf, tailOf};
+ghost use Rattle.sheet.specs.Told.{blank};
+ghost use Rattle.sheet.specs.Promises.{Judge, Read, Write, WrittenRefusal};
 ghost use Rattle.sheet.specs.declared.Field.the-variants.{Rank, Entry};
 
 pub struct Sheet {
@@ -266,7 +267,7 @@ fn judge_fields(s: Sheet, len: usize) -> Verdict
 
 // A sheet in memory, judged for 2 to 8 in the order of its fields.
 pub fn judge(s: Sheet) -> Verdict
-    ensures { λ r. ⌜ told r ≡ judgeOf s ⌝ }
+    ensures { λ r. ⌜ Judge s r ⌝ }
 {
     judge_fields(s, 2000)
 }
@@ -391,7 +392,7 @@ fn refused(verdict: Verdict) -> Reading
 
 // The sheet that bytes hold; a blank sheet stands beside a refusal.
 pub fn read(bytes: &[u8]) -> Reading
-    ensures { λ r. ⌜ (toldSheet r ≡ readOf (now (bytes .entry))) × (r .sheet ≡ sheetIn (readOf (now (bytes .entry)))) ⌝ }
+    ensures { λ r. ⌜ Read (now (bytes .entry)) r ⌝ }
 {
     let sheet = spell(bytes);
     let fields = judge_fields(sheet, bytes.len());
@@ -427,7 +428,7 @@ fn put_fields(out: &mut [u8], s: Sheet)
 
 // The sheet's bytes at the front of a buffer, and how many they are.
 pub fn write(s: Sheet, out: &mut [u8]) -> Written
-    ensures { λ r. ⌜ (toldBytes r ≡ writeOf s (length (now (out .entry)))) × (now (out .exit) ≡ bufferAfter (toldBytes r) s (now (out .entry))) ⌝ }
+    ensures { λ r. ⌜ Write s (now (out .entry)) r (now (out .exit)) ⌝ }
 {
     let v = judge(s);
     let Verdict::Fine = v else {
@@ -441,4 +442,14 @@ pub fn write(s: Sheet, out: &mut [u8]) -> Written
     put_fields(&mut *out, s);
     bits::put(&mut *out, end, size * 8 - end, 0);
     Written::Bytes(size as usize)
+}
+
+// The refusal in an answer of the writer. Number 0, which no refusal has, stands for none.
+pub fn written_refusal(w: Written) -> Refusal
+    ensures { λ r. ⌜ WrittenRefusal w r ⌝ }
+{
+    let Written::No(r) = w else {
+        return Refusal::Number(0);
+    };
+    r
 }

@@ -92,6 +92,11 @@ maximum-reached (suc n) f h = go (decLe (maximum n f) (f n)) (ℕ-discrete n 0) 
     go (no e) (yes z) rec = absurd (omega (arith, ap (λ x. maximum x f) z))
     go (no e) (no z) rec = let r = rec (omega arith) in (r .0, omega (arith, r .1), omega (arith, r .2))
 
+pub maximum-eq : (n : ℕ) (f g : ℕ → ℕ) → ((k : ℕ) → k < n → f k ≡ g k) → maximum n f ≡ maximum n g
+unfolding maximum
+maximum-eq zero f g h = refl
+maximum-eq (suc n) f g h = ap₂ max (maximum-eq n f g (λ k l. h k (omega arith))) (h n (le-refl _))
+
 -- The first number that passes a test
 
 pub least-within : (n : ℕ) (test : ℕ → Bool) → least n test ≤ n

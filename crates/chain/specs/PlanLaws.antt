@@ -8,6 +8,7 @@ use lib.Dec.{eqb}
 use lib.ListN.{length, getD}
 use Rattle.theory.specs.declared.Task.{Task}
 use Rattle.arith.specs.Ranges.{sum, maximum, least}
+use Rattle.arith.specs.RangeLaws.{maximum-eq}
 use Rattle.theory.specs.Model.Schedule.{period, rank, release}
 use Rattle.theory.specs.Model.Responses.{response, jobs, taskResponse}
 use Rattle.theory.specs.Analysis.Hyperperiod.{jobs-whole, jobs-positive, jobs-released}
@@ -20,7 +21,6 @@ use Rattle.chain.specs.declared.answer.Figure.{Figure}
 use Rattle.chain.specs.Answer.{chainOf, firstOf, restOf, delayAt, figureOf, quickBound}
 use Rattle.chain.specs.Steps.{Taken, tasksIn, rowsIn, greatestIn, delayIn, Entry, Path, Greatest, Gathered}
 use Rattle.schedule.specs.Steps.{Holds}
-use Rattle.chain.specs.GreatestLaws.{maximum-same}
 use Rattle.chain.specs.ReadLaws.{period-in, rank-in}
 use Rattle.chain.specs.SheetLaws.{tasks-length, period-positive, period-most, entry-listed, chain-known}
 use Rattle.chain.specs.GatherLaws.{row-within}
@@ -62,7 +62,7 @@ module _ {s : Sheet} (taken : Taken s) {table : List ℕ} (holds : Holds (tasksO
   unfolding taskResponse
   greatest-is i l =
       ap (λ n. maximum n (rowsIn starts counts table i)) (gathered .counts-are .holds i (counted i l))
-      ∙ maximum-same (jobs ts i) (rowsIn starts counts table i) (response ts i) (λ k m. response-is i k l)
+      ∙ maximum-eq (jobs ts i) (rowsIn starts counts table i) (response ts i) (λ k m. response-is i k l)
 
   entry : (i : ℕ) → listed i → Entry periods starts counts table i
   entry i l = record {

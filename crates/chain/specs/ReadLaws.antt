@@ -12,11 +12,10 @@ use Rattle.arith.specs.Whole.{gcd, up}
 use Rattle.bits.specs.Lists.{getD-listOf}
 use Rattle.theory.specs.declared.Task.{Task}
 use Rattle.arith.specs.Ranges.{maximum}
-use Rattle.arith.specs.RangeLaws.{maximum-least}
+use Rattle.arith.specs.RangeLaws.{maximum-least, maximum-eq}
 use Rattle.theory.specs.Model.Schedule.{none, period, release, rank}
 use Rattle.theory.specs.Model.Chain.{nextRelease}
 use Rattle.chain.specs.Steps.{mostPeriod, tasksIn, rowsIn, greatestIn, pairBound, Row, Entry}
-use Rattle.chain.specs.GreatestLaws.{maximum-same}
 
 module _ (periods ranks : List ℕ) (i : ℕ) (known : i < 16) where
   task-in : getD (tasksIn periods ranks) i none ≡ record { period = getD periods i 0; budget = 0; rank = getD ranks i 0 }
@@ -51,7 +50,7 @@ module _ {starts counts table : List ℕ} {i : ℕ} (row : Row starts counts tab
   part-length = simp (length-take, length-drop) (omega (arith, row .within))
 
   pub part-greatest : maximum (length part) (λ k. getD part k 0) ≡ greatestIn starts counts table i
-  part-greatest = ap (λ n. maximum n (λ k. getD part k 0)) part-length ∙ maximum-same (getD counts i 0) (λ k. getD part k 0) (rowsIn starts counts table i) entry
+  part-greatest = ap (λ n. maximum n (λ k. getD part k 0)) part-length ∙ maximum-eq (getD counts i 0) (λ k. getD part k 0) (rowsIn starts counts table i) entry
     where
       entry : (k : ℕ) → k < getD counts i 0 → getD part k 0 ≡ rowsIn starts counts table i k
       entry k l =

@@ -71,13 +71,16 @@ loop-less c = search needs
 
 loop-again : tie.Need-loop-again Inv-loop μ-loop
 loop-again c =
-    let a = c .before .before .before .before .before .before .before .before .args in
-    let l = c .before .before .before .before .before .loop in
-    let end = c .before .before .before .before .before .before .held .result in
-    let e = c .before .before .put-bit .ensures in (
+    let called = c .before .before in
+    let turn = called .before .before .before in
+    let held = turn .before in
+    let a = held .before .before .args in
+    let l = turn .loop in
+    let end = held .held .result in
+    let e = called .put-bit .ensures in (
       omega arith,
       l .inv .1,
-      omega (arith, length-unpack (c .before .before .put-bit .last .0), length-unpack (l .out), ap length e, length-set (unpack (l .out)) (a .at + l .k) (odd (a .value / 2 ^ (end - 1 - l .k) % 2)), l .inv .2),
+      omega (arith, length-unpack (called .put-bit .last .0), length-unpack (l .out), ap length e, length-set (unpack (l .out)) (a .at + l .k) (odd (a .value / 2 ^ (end - 1 - l .k) % 2)), l .inv .2),
       ap (λ x. sets x (a .at + (l .k + 1)) (bits (end - (l .k + 1)) (a .value))) e ∙ step (unpack (l .out)) (a .at) (l .k) end (a .value) (omega arith) ∙ l .inv .3,
     )
 

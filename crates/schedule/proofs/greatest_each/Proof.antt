@@ -1,13 +1,14 @@
 -- After i turns the first i places hold R of their tasks, and the next row starts after those of theirs.
 use mathlib.Core.Path.{_≡_, refl, sym, ap, ap₂, _∙_}
 use mathlib.Core.List.{List}
-use Prim.Native.Nat.{ℕ, zero, suc, max, _+_, _-_, _≤_, _<_}
+use Prim.Native.Nat.{ℕ, _+_, _-_, _≤_, _<_}
 use native.Mathlib.Nat.{div-le-self}
 use native.Mathlib.Omega.{arith}
 use lib.ListN.{length, getD, take, drop, set}
 use lib.Seq.{getD-take, getD-drop}
 use Rattle.bits.specs.Bits.{listOf}
 use Rattle.arith.specs.Ranges.{sum, maximum}
+use Rattle.arith.specs.RangeLaws.{maximum-eq}
 use Rattle.theory.specs.declared.Task.{Task}
 use Rattle.theory.specs.Model.Schedule.{none}
 use Rattle.theory.specs.Model.Responses.{response, jobs, taskResponse}
@@ -21,11 +22,6 @@ use borrow.Author.Needs.{needs}
 use Rattle.schedule.proofs.greatest_each.Statement.{statement}
 use Rattle.schedule.proofs.greatest_each.Tie as tie
 
-maximum-same : (n : ℕ) (f g : ℕ → ℕ) → ((k : ℕ) → k < n → f k ≡ g k) → maximum n f ≡ maximum n g
-unfolding maximum
-maximum-same zero f g h = refl
-maximum-same (suc n) f g h = ap₂ max (maximum-same n f g (λ k l. h k (omega arith))) (h n (omega arith))
-
 -- the greatest entry of the part that is a task's row
 row-greatest : (ts : List Task) (table : List ℕ) → Holds ts table → (i from n : ℕ) → i < length ts → from ≡ sum i (jobs ts) → jobs ts i ≡ n → from + n ≤ length table
     → maximum (length (take (from + n - from) (drop from table))) (λ k. getD (take (from + n - from) (drop from table)) k 0) ≡ taskResponse ts i
@@ -33,7 +29,7 @@ unfolding taskResponse
 row-greatest ts table holds i from n known starts size room =
     let part = take (from + n - from) (drop from table) in
     ap (λ m. maximum m (λ k. getD part k 0)) (part-length from n table room ∙ sym size)
-    ∙ maximum-same (jobs ts i) (λ k. getD part k 0) (response ts i) (λ k l. getD-take (from + n - from) (drop from table) k 0 (omega arith)
+    ∙ maximum-eq (jobs ts i) (λ k. getD part k 0) (response ts i) (λ k l. getD-take (from + n - from) (drop from table) k 0 (omega arith)
     ∙ getD-drop from table k 0 ∙ ap (λ a. getD table (a + k) 0) starts ∙ holds .entry i k known l)
 
 abbrev Inv-loop : tie.InvT-loop

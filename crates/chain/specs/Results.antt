@@ -13,7 +13,7 @@ use Rattle.theory.specs.Analysis.Repetition.{response-again}
 use Rattle.theory.specs.Model.Chain.{Chain, delay, worst, bound, PathEnds, Rising}
 use Rattle.theory.specs.Analysis.ChainLaws.{delay-again}
 use Rattle.theory.specs.Analysis.Paths.{path-within, path-exists, path-exact}
-use Rattle.theory.specs.Demand3 as demand
+use Rattle.theory.specs.Results.Demand3 as demand
 use Rattle.theory.specs.Results.Demand3.{GreatestDelay}
 use Rattle.sheet.specs.declared.Sheet.{Sheet}
 use Rattle.sheet.specs.Answers.{given}

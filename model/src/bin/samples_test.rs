@@ -1,9 +1,7 @@
-//! The sample sheets, document 01's and one for each refusal, with the report of each; and what the programs report and measure are
-//! run on.
+//! The sample sheets, document 01's and one for each refusal, with the report of each; and what the program report is run on.
 
-use model::chain::worst;
 use model::report::report;
-use model::sheet::{encoded, packed, raw_bits, read, Task};
+use model::sheet::{encoded, packed, raw_bits, Task};
 use model::store;
 
 fn tasks(list: &[(u32, u32, u8)]) -> Vec<Task> {
@@ -50,9 +48,6 @@ fn main() {
     let radio = &sheets[1].1;
     files.push(("crates/report/stdin".into(), radio.clone()));
     files.push(("crates/report/stdout".into(), report(radio).into_bytes()));
-    let (figure, _) = worst(&read(radio).unwrap(), &mut [0; 8_192]).unwrap();
-    files.push(("crates/measure/stdin".into(), [&b"w"[..], radio].concat()));
-    files.push(("crates/measure/stdout".into(), format!("{figure}\n").into_bytes()));
     let files: Vec<(&str, Vec<u8>)> = files.iter().map(|(name, content)| (name.as_str(), content.clone())).collect();
     store(&files);
 }

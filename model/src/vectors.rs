@@ -375,7 +375,7 @@ fn samples() -> Vec<Request> {
     let mut names: Vec<_> = std::fs::read_dir(concat!(env!("CARGO_MANIFEST_DIR"), "/../samples"))
         .expect("the samples are there")
         .map(|entry| entry.unwrap().path())
-        .filter(|path| path.extension().is_some_and(|x| x == "sheet"))
+        .filter(|path| path.extension().map_or(false, |x| x == "sheet"))
         .collect();
     names.sort();
     let radio = sheet(&[(20, 5, 1), (6, 1, 3), (12, 3, 2)], &[2, 1]);

@@ -3,6 +3,7 @@ pub mod Work
 pub mod Level
 pub mod Backlog
 pub mod Finish
+pub mod GreatestLaws
 pub mod Existence
 pub mod ResponseLaws
 pub mod Clearing

@@ -3,6 +3,7 @@ pub mod Work
 pub mod Level
 pub mod Backlog
 pub mod Finish
+pub mod GreatestLaws
 pub mod Existence
 pub mod ResponseLaws
 pub mod Clearing
@@ -11,7 +12,9 @@ pub mod Repetition
 pub mod Idle
 pub mod NeverLater
 -- The laws of the chain.
+pub mod WalkLaws
 pub mod ChainLaws
+pub mod WalkPaths
 pub mod Paths
 -- The laws of the readings that it carries.
 pub mod ReadingLaws

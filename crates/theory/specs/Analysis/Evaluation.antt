@@ -15,8 +15,8 @@ use Rattle.theory.specs.Model.Schedule.{period, budget, rank, Proper}
 use Rattle.theory.specs.Model.Responses.{response, hyperperiod, jobs, taskResponse, Accepted}
 use Rattle.theory.specs.Analysis.Hyperperiod.{released-jobs}
 use Rattle.theory.specs.Analysis.Clearing.{clearing, response-clearing, late-clearing}
-use Rattle.theory.specs.Model.Chain.{Chain, delay, worst, worstRelease, bound}
-use Rattle.theory.specs.Analysis.ChainLaws.{delay-same, worst-same, worst-release-same, bound-same}
+use Rattle.theory.specs.Model.Chain.{Chain, outranked, delay, worst, worstRelease, bound}
+use Rattle.theory.specs.Analysis.WalkLaws.{Alike, alike-self, walk-delay-same, walk-worst-same, walk-worst-release-same, walk-bound-same}
 
 -- What is decided to hold holds.
 pub decided : {P : Type 0} (d : Dec P) → T (decide d) → P
@@ -94,17 +94,23 @@ module _ {ts : List Task} (good : Proper ts) (p : ℕ) (rest : List ℕ) (chain 
   cleared : (i k : ℕ) → i < length ts → response ts i k ≡ clearing ts i k
   cleared i k l = response-clearing good i k l
 
+  self : Alike (length ts) (period ts) (period ts) (outranked ts) (outranked ts)
+  self = alike-self (length ts) (period ts) (outranked ts)
+
   pub delay-clearing : (r : ℕ) → delay ts (response ts) p rest r ≡ delay ts (clearing ts) p rest r
-  delay-clearing r = delay-same ts (response ts) (clearing ts) cleared p rest r chain
+  unfolding delay
+  delay-clearing r = walk-delay-same self (response ts) (clearing ts) cleared p rest r chain
 
   pub worst-clearing : worst ts (response ts) p rest ≡ worst ts (clearing ts) p rest
-  worst-clearing = worst-same ts (response ts) (clearing ts) cleared p rest chain
+  unfolding worst
+  worst-clearing = walk-worst-same self (response ts) (clearing ts) cleared (hyperperiod ts) p rest chain
 
   pub worst-release-clearing : worstRelease ts (response ts) p rest ≡ worstRelease ts (clearing ts) p rest
-  worst-release-clearing = worst-release-same ts (response ts) (clearing ts) cleared p rest chain
+  unfolding worstRelease
+  worst-release-clearing = walk-worst-release-same self (response ts) (clearing ts) cleared (hyperperiod ts) p rest chain
 
   pub bound-clearing : bound ts (taskResponse ts) p rest ≡ bound ts (λ i. maximum (jobs ts i) (clearing ts i)) p rest
-  unfolding taskResponse
+  unfolding taskResponse bound
   bound-clearing =
-      bound-same ts (taskResponse ts) (λ i. maximum (jobs ts i) (clearing ts i))
+      walk-bound-same self (taskResponse ts) (λ i. maximum (jobs ts i) (clearing ts i))
       (λ i l. ap (maximum (jobs ts i)) (fun-ext (λ k. cleared i k l))) p rest chain

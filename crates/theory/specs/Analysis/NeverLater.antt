@@ -1,18 +1,15 @@
 -- On an accepted sheet, in every schedule with demands 1 to C, each job finishes no later than at full budgets.
-use mathlib.Core.Path.{_≡_, subst}
 use mathlib.Core.List.{List}
 use Prim.Native.Nat.{ℕ, suc, _+_, _≤_, _<_}
-use native.Mathlib.Nat.{mul-le-mul-right}
 use native.Mathlib.Omega.{arith}
-use native.Mathlib.Decide.{ℕ-discrete}
 use lib.ListN.{length}
 use Rattle.theory.specs.declared.Task.{Task}
-use Rattle.theory.specs.Model.Schedule.{period, release, Proper, Demands, Within, need, Run, done, Schedule, Starts, Finishes}
+use Rattle.theory.specs.Model.Schedule.{release, Proper, Demands, Within, need, Run, done, Schedule, Starts, Finishes}
 use Rattle.theory.specs.Model.Responses.{full, response, Accepted}
 use Rattle.theory.specs.Analysis.Backlog.{fullBacklog, backlog-mono}
 use Rattle.theory.specs.Analysis.Finish.{FirstZero, done-starts, done-finishes, finish-least, finish-unique, zero-done}
 use Rattle.theory.specs.Analysis.ResponseLaws.{response-first-zero, response-finishes}
-use Rattle.theory.specs.Analysis.Repetition.{never-late, response-period}
+use Rattle.theory.specs.Analysis.Repetition.{never-late}
 
 -- Full budgets are demands from 1 to C.
 pub full-within : {ts : List Task} → Proper ts → Within ts (full ts)
@@ -38,19 +35,9 @@ module _ {ts : List Task} (ok : Accepted ts) {d : Demands} {run : Run} (s : Sche
   pub job-finishes : (f : ℕ) × Finishes d run i k f
   job-finishes = let x = done-finishes d run i k (release ts i k + response ts i k) (w .least-one i k known) job-done in (x .0, x .2)
 
-  -- It finishes no later than its response after its release,
+  -- It finishes no later than its response after its release.
   pub finish-response : (f : ℕ) → Finishes d run i k f → f ≤ release ts i k + response ts i k
   finish-response f x = finish-least x (release ts i k + response ts i k) job-done
-
--- nor, being on time, than any later job's response after its release.
-pub finish-response-later : {ts : List Task} (ok : Accepted ts) {d : Demands} {run : Run} (s : Schedule ts d run) (w : Within ts d) (i k m f : ℕ)
-    → i < length ts → k ≤ m → Finishes d run i k f → f ≤ release ts i m + response ts i m
-finish-response-later {ts} ok {d} {run} s w i k m f l h x = go (ℕ-discrete k m)
-  where
-    go : Dec (k ≡ m) → f ≤ release ts i m + response ts i m
-    go (yes e) = finish-response ok s w i m l f (subst (λ y. Finishes d run i y f) e x)
-    go (no e) =
-        omega (arith, finish-response ok s w i k l f x, response-period ok i l k, mul-le-mul-right {m = suc k} {n = m} (period ts i) (omega arith))
 
 -- Earlier, never later.
 pub never-later : {ts : List Task} (ok : Accepted ts) {d : Demands} {run run′ : Run} → Schedule ts d run → Within ts d

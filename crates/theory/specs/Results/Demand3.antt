@@ -2,34 +2,32 @@
 -- The theorems follow paths; 2 says what the end of a path carries.
 use mathlib.Core.Path.{_≡_, ap, subst}
 use mathlib.Core.List.{List, [], _∷_}
-use Prim.Native.Nat.{ℕ, _+_, _*_, _/_, _≤_, _<_}
+use Prim.Native.Nat.{ℕ, _+_, _*_, _/_, _≤_}
 use native.Mathlib.Nat.{le-refl, div-mul-le-self}
 use native.Mathlib.Omega.{arith}
-use lib.ListN.{length}
 use Rattle.theory.specs.declared.Task.{Task}
 use Rattle.theory.specs.Model.Schedule.{period, release, Demands, Within, Run, Schedule}
 use Rattle.theory.specs.Model.Responses.{full, fullBudget, response, hyperperiod, taskResponse, Accepted}
 use Rattle.theory.specs.Analysis.Repetition.{response-again, response-greatest}
-use Rattle.theory.specs.Model.Chain.{Chain, delay, worst, worstRelease, bound, PathEnds, Rising}
+use Rattle.theory.specs.Model.Chain.{Chain, outranked, delay, worst, worstRelease, bound, GreatestOf, PathEnds, Rising}
 use Rattle.theory.specs.Model.Readings.{Carries, Arrives}
 use Rattle.theory.specs.Analysis.ReadingLaws.{carries-order, path-first, path-carries}
-use Rattle.theory.specs.Analysis.ChainLaws.{chain-head, delay-worst, worst-bound, worst-release-job, worst-release-early, worst-release-delay, worst-release-least}
+use Rattle.theory.specs.Analysis.WalkLaws.{walk-worst-of-all, walk-worst-bound}
+use Rattle.theory.specs.Analysis.Hyperperiod.{hyperperiod-cycle}
 use Rattle.theory.specs.Analysis.Paths.{path-unique, path-within, path-exists, path-exact}
 use Rattle.theory.specs.Results.Examples.{quartet, quartet-chain}
 use Rattle.theory.specs.Results.Quartet.{quartet-run, quartet-path}
 use Rattle.theory.specs.Results.Overtaken.{pair, pair-path, pair-carries, pair-lost}
 
 -- A figure is the greatest delay of the chain over all releases of its first task, and a release the smallest that gives it; it is before H.
-pub record GreatestDelay (ts : List Task) (p : ℕ) (rest : List ℕ) (figure at : ℕ) : Type 0 where
-  pub greatest : (k : ℕ) → delay ts (response ts) p rest (release ts p k) ≤ figure
-  pub given : delay ts (response ts) p rest at ≡ figure
-  pub first-task : release ts p (at / period ts p) ≡ at
-  pub before : at < hyperperiod ts
-  pub smallest : (k : ℕ) → delay ts (response ts) p rest (release ts p k) ≡ figure → at ≤ release ts p k
+abbrev pub GreatestDelay : List Task → ℕ → List ℕ → ℕ → ℕ → Type 0
+GreatestDelay ts p rest = GreatestOf (period ts p) (hyperperiod ts) (delay ts (response ts) p rest)
 
-figure-greatest : {ts : List Task} → Accepted ts → (p : ℕ) (rest : List ℕ) (k : ℕ) → Chain ts p rest
-    → delay ts (response ts) p rest (release ts p k) ≤ worst ts (response ts) p rest
-figure-greatest {ts} accepted = delay-worst (accepted .proper) (response ts) (λ i m l. response-again accepted i l m)
+figure-greatest : {ts : List Task} → Accepted ts → (p : ℕ) (rest : List ℕ) → Chain ts p rest
+    → GreatestDelay ts p rest (worst ts (response ts) p rest) (worstRelease ts (response ts) p rest)
+unfolding delay worst worstRelease
+figure-greatest {ts} accepted =
+    walk-worst-of-all (hyperperiod-cycle (accepted .proper)) (outranked ts) (response ts) (λ i k l. response-again accepted i l k)
 
 -- 1. No schedule exceeds the figure. For every accepted sheet, all demands of 1 to C, every run that is a schedule for them and every job
 -- of the chain's first task: its path exists, and ends no later than the worst figure after its release.
@@ -39,7 +37,7 @@ pub no-schedule-exceeds :
     → ((f : ℕ) × PathEnds d run p rest k f) × ((f : ℕ) → PathEnds d run p rest k f → f ≤ release ts p k + worst ts (response ts) p rest)
 no-schedule-exceeds ts accepted p rest chain d within run schedule k = (
   path-exists accepted schedule within p rest chain k,
-  λ f path. omega (arith, path-within accepted schedule within p rest chain k k f (le-refl _) path, figure-greatest accepted p rest k chain),
+  λ f path. omega (arith, path-within accepted schedule within p rest chain k k f (le-refl _) path, figure-greatest accepted p rest chain .greatest k),
 )
 
 -- 2. The end of a path is where its reading arrives, or a newer one. For all demands of 1 to C, every run and every path in it: the write that
@@ -72,43 +70,33 @@ reading-arrives ts accepted p rest chain d within run schedule k =
 pub worst-within-bound :
     (ts : List Task) (accepted : Accepted ts) (p : ℕ) (rest : List ℕ) (chain : Chain ts p rest)
     → worst ts (response ts) p rest ≤ bound ts (taskResponse ts) p rest
+unfolding worst bound
 worst-within-bound ts accepted p rest chain =
-    worst-bound (accepted .proper) (response ts) (taskResponse ts) (λ i k l. response-greatest accepted i l k) p rest chain
+    walk-worst-bound (accepted .proper .period-positive) (outranked ts) (response ts) (taskResponse ts)
+    (λ i k l. response-greatest accepted i l k) (hyperperiod ts) p rest chain
 
--- 5. Where each task on the chain outranks the one before it, the full-budget schedule reaches the figure: the path of the job
--- at the release that goes with it ends exactly the figure after that release.
+-- 5. Where each task on the chain outranks the one before it, the full-budget schedule reaches the figure: the path from the job
+-- at the release that goes with it ends exactly the figure after that release, and by 2 neither its reading nor a newer one arrives before.
 pub worst-reached :
     (ts : List Task) (accepted : Accepted ts) (p : ℕ) (rest : List ℕ) (chain : Chain ts p rest) (rising : Rising ts p rest)
     (run : Run) (schedule : Schedule ts (full ts) run)
     → PathEnds (full ts) run p rest (worstRelease ts (response ts) p rest / period ts p)
     (worstRelease ts (response ts) p rest + worst ts (response ts) p rest)
 worst-reached ts accepted p rest chain rising run schedule =
-    subst (PathEnds (full ts) run p rest k) (omega (arith, job, ap (delay ts (response ts) p rest) job, gives))
+    subst (PathEnds (full ts) run p rest k) (omega (arith, figure .first-task, ap (delay ts (response ts) p rest) (figure .first-task), figure .given))
     (path-exact accepted schedule p rest chain rising k)
   where
     k : ℕ
     k = worstRelease ts (response ts) p rest / period ts p
 
-    job : release ts p k ≡ worstRelease ts (response ts) p rest
-    job = worst-release-job (accepted .proper) (response ts) p rest (chain-head ts p rest chain)
-
-    gives : delay ts (response ts) p rest (worstRelease ts (response ts) p rest) ≡ worst ts (response ts) p rest
-    gives = worst-release-delay (accepted .proper) (response ts) p rest (chain-head ts p rest chain)
+    figure : GreatestDelay ts p rest (worst ts (response ts) p rest) (worstRelease ts (response ts) p rest)
+    figure = figure-greatest accepted p rest chain
 
 -- 6. The figure is the greatest delay over all releases of the first task, not only those before H, and its release the smallest that gives it.
 pub worst-of-all :
     (ts : List Task) (accepted : Accepted ts) (p : ℕ) (rest : List ℕ) (chain : Chain ts p rest)
     → GreatestDelay ts p rest (worst ts (response ts) p rest) (worstRelease ts (response ts) p rest)
-worst-of-all ts accepted p rest chain = record {
-  greatest = λ k. figure-greatest accepted p rest k chain;
-  given = worst-release-delay (accepted .proper) (response ts) p rest known;
-  first-task = worst-release-job (accepted .proper) (response ts) p rest known;
-  before = worst-release-early (accepted .proper) (response ts) p rest known;
-  smallest = worst-release-least (accepted .proper) (response ts) p rest known;
-}
-  where
-    known : p < length ts
-    known = chain-head ts p rest chain
+worst-of-all ts accepted p rest chain = figure-greatest accepted p rest chain
 
 -- 7. The figure need not be reached. Quartet has one schedule, whatever the demands within its budgets of 1; its longest delay is 5,
 -- from release 0, where the figure is 8.

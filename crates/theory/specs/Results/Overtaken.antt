@@ -8,16 +8,16 @@ use native.Mathlib.Nat.{le-refl, pos-of-ne-zero}
 use native.Mathlib.Omega.{arith}
 use Rattle.theory.specs.declared.Task.{Task}
 use Rattle.theory.specs.Model.Schedule.{release, busy, Starts, Finishes}
-use Rattle.theory.specs.Model.Responses.{full, fullBudget, response, Accepted}
+use Rattle.theory.specs.Model.Responses.{full, fullBudget, Accepted}
 use Rattle.theory.specs.Model.Chain.{Chain, HandOver, PathEnds}
 use Rattle.theory.specs.Model.Readings.{Reads, Carries}
 use Rattle.theory.specs.Analysis.Work.{done-busy, need-step}
-use Rattle.theory.specs.Analysis.Finish.{start-unique, finish-released}
+use Rattle.theory.specs.Analysis.Finish.{start-unique, finish-later, finish-released}
 use Rattle.theory.specs.Analysis.Existence.{full-schedule}
 use Rattle.theory.specs.Analysis.ResponseLaws.{response-finishes}
 use Rattle.theory.specs.Analysis.Clearing.{clearing, response-clearing}
 use Rattle.theory.specs.Analysis.Repetition.{never-late}
-use Rattle.theory.specs.Analysis.NeverLater.{full-within, finish-response-later}
+use Rattle.theory.specs.Analysis.NeverLater.{full-within}
 use Rattle.theory.specs.Analysis.ReadingLaws.{carries-order, path-first}
 use Rattle.theory.specs.Analysis.Evaluation.{decided, proper?, clears?, clears-accepted}
 use Rattle.theory.specs.Results.Examples.{task}
@@ -29,11 +29,8 @@ pub pair-accepted : Accepted pair
 unfolding decide proper? clears?
 pair-accepted = clears-accepted (decided (proper? pair) tt) (decided (clears? pair) tt)
 
-response-is : (i k n : ℕ) → i < 2 → clearing pair i k ≡ n → response pair i k ≡ n
-response-is i k n l e = response-clearing (pair-accepted .proper) i k l ∙ e
-
 finishes : (i k n : ℕ) → i < 2 → clearing pair i k ≡ n → Finishes (full pair) (fullBudget pair) i k (release pair i k + n)
-finishes i k n l e = subst (λ x. Finishes (full pair) (fullBudget pair) i k (release pair i k + x)) (response-is i k n l e)
+finishes i k n l e = subst (λ x. Finishes (full pair) (fullBudget pair) i k (release pair i k + x)) (response-clearing (pair-accepted .proper) i k l ∙ e)
     (response-finishes (pair-accepted .proper) i k l (never-late pair-accepted i l k) (full-schedule pair))
 
 starts : (k : ℕ) → clearing pair 1 k ≡ 1 → Starts (full pair) (fullBudget pair) 1 k (k * 10)
@@ -64,26 +61,21 @@ pub pair-carries : Carries (full pair) (fullBudget pair) 0 (1 ∷ []) 4 11
 unfolding clearing
 pair-carries = (1, reads, finishes 1 1 1 (omega arith) refl)
   where
+    fourth : Finishes (full pair) (fullBudget pair) 0 4 9
+    fourth = finishes 0 4 1 (omega arith) refl
+
+    released : (x f : ℕ) → Finishes (full pair) (fullBudget pair) 0 x f → f ≤ 10 → x ≤ 4
+    released x f y h = omega (arith, finish-released (pair-accepted .proper) (full-schedule pair) 0 x (omega arith) f (omega arith) y)
+
     reads : Reads (full pair) (fullBudget pair) 0 1 4 1
     reads = record {
       read = 10;
       starts = starts 1 refl;
       write = 9;
-      finishes = finishes 0 4 1 (omega arith) refl;
+      finishes = fourth;
       in-time = omega arith;
-      newest = newest;
+      newest = λ x f y h. finish-later (released x f y h) y fourth;
     }
-      where
-        newest : (x f : ℕ) → Finishes (full pair) (fullBudget pair) 0 x f → f ≤ 10 → f ≤ 9
-        newest x f y h =
-            omega (
-              arith,
-              response-is 0 4 1 (omega arith) refl,
-              finish-response-later pair-accepted (full-schedule pair) (full-within (pair-accepted .proper)) 0 x 4 f (omega arith) released y,
-            )
-          where
-            released : x ≤ 4
-            released = omega (arith, finish-released (pair-accepted .proper) (full-schedule pair) 0 x (omega arith) f (omega arith) y)
 
 -- The write of job 0 is not read before the path's end, and from then on newer ones are.
 pub pair-lost : (f : ℕ) → ¬ (Carries (full pair) (fullBudget pair) 0 (1 ∷ []) 0 f)

@@ -1,5 +1,6 @@
--- The reader's part: what the calls answer and leave in the table.
+-- The reader's part: what the calls answer, and what each promises.
 pub mod Answer
+pub mod Promises
 -- What the functions under the calls promise each other, and laws of it.
 pub mod Steps
 pub mod GreatestLaws

@@ -11,6 +11,8 @@ use Rattle.theory.specs.Model.Schedule.{rank, need, release, Slot, idle, busy, 
 use Rattle.theory.specs.Model.Greatest.{greatest}
 use Rattle.theory.specs.Model.Responses.{full, fullBudget, response, hyperperiod, jobs, allJobs, idleTicks, taskResponse}
 use Rattle.sheet.specs.declared.Sheet.{Sheet}
+use Rattle.answers.specs.declared.Refusal.{Refusal}
+use Rattle.answers.specs.declared.Refusal.the-variants.{Number}
 use Rattle.answers.specs.Answers.{Answer, given, refused, Judgement, fine, when, after, also, refusal}
 use Rattle.sheet.specs.Calls.{places, judgeOf}
 use Rattle.schedule.specs.declared.answer.Totals.{Totals}
@@ -74,8 +76,8 @@ rows ts zero = []
 rows ts (suc n) = rows ts n ++ row ts n
 
 -- "Entries from J on are not touched." "Numbers 1 to 14 leave lent memory untouched. Number 15 leaves zeros in the first J entries."
-abbrev pub tableAfter : Answer Totals → List Task → List ℕ → List ℕ
-tableAfter (given totals) ts old = rows ts (length ts) ++ drop (allJobs ts) old
+abbrev pub tableAfter : {A : Type 0} → Answer A → List Task → List ℕ → List ℕ
+tableAfter (given x) ts old = rows ts (length ts) ++ drop (allJobs ts) old
 tableAfter (refused number values) ts old = cond (eqb number 15) (replicate (allJobs ts) 0 ++ drop (allJobs ts) old) old
 
 -- "R, the greatest response" of each task of the sheet, in its place; zeros with a refusal.
@@ -91,3 +93,12 @@ toldTotals (No r) = refusal r
 abbrev pub toldSize : Sizes → Answer Size
 toldSize (Of size) = given size
 toldSize (NoSize r) = refusal r
+
+-- The refusal in an answer. Number 0, which no refusal has, stands for none.
+abbrev pub sizesRefusal : Sizes → Refusal
+sizesRefusal (Of size) = Number 0
+sizesRefusal (NoSize r) = r
+
+abbrev pub responsesRefusal : Responses → Refusal
+responsesRefusal (Table totals) = Number 0
+responsesRefusal (No r) = r

@@ -25,9 +25,9 @@ ghost use Rattle.arith.specs.Limit.{told, within};
 ghost use Rattle.arith.specs.Ranges.{maximum};
 ghost use Rattle.theory.specs.Model.Responses.{hyperperiod, jobs, allJobs, taskResponse};
 ghost use Rattle.sheet.specs.Calls.{places};
-ghost use Rattle.answers.specs.Answers.{refusalIn};
-ghost use Rattle.schedule.specs.Answer.{mostTicks, tasksOf, sizesOf, responsesOf, tableAfter, greatestAfter, toldSize, toldTotals};
-ghost use Rattle.schedule.specs.Steps.{Taken, Period, Holds, sizesRefusal, responsesRefusal, lateOf, coming, PlaceOf, Level, Ready, Turned, Walk, Walked, Places, RowFilled, Noted, FoundTo, Filled};
+ghost use Rattle.schedule.specs.Answer.{mostTicks, tasksOf};
+ghost use Rattle.schedule.specs.Promises.{SizesPromise, SizesRefusalPromise, ResponsesPromise, ResponsesRefusalPromise, TaskResponsesPromise};
+ghost use Rattle.schedule.specs.Steps.{Taken, Period, Holds, lateOf, coming, PlaceOf, Level, Ready, Turned, Walk, Walked, Places, RowFilled, Noted, FoundTo, Filled};
 
 // "H at most 1,000,000; J at most 8,192"
 const MOST_TICKS: u32 = 1000000;
@@ -69,7 +69,7 @@ fn job_count(s: Sheet, h: u32) -> u32
 
 // H and J, for a sheet that is judged fine and keeps their limits.
 pub fn sizes(s: Sheet) -> Sizes
-    ensures { λ r. ⌜ toldSize r ≡ sizesOf s ⌝ }
+    ensures { λ r. ⌜ SizesPromise s r ⌝ }
 {
     let v = sheet::judge(s);
     let Verdict::Fine = v else {
@@ -287,7 +287,7 @@ fn clear(table: &mut [u32], n: usize)
 
 // The refusal in an answer that gives no sizes. Number 0, which no refusal has, stands for none.
 pub fn sizes_refusal(z: Sizes) -> Refusal
-    ensures { λ r. ⌜ r ≡ sizesRefusal z ⌝ }
+    ensures { λ r. ⌜ SizesRefusalPromise z r ⌝ }
 {
     let Sizes::No(r) = z else {
         return Refusal::Number(0);
@@ -313,8 +313,7 @@ fn found_refusal(f: Found) -> Refusal
 
 // The response of each job before H, "task by task in sheet order, each task's jobs in release order", with H, J and the idle ticks.
 pub fn responses(s: Sheet, table: &mut [u32]) -> Responses
-    ensures { λ r. ⌜ toldTotals r ≡ responsesOf s (length (now (table .entry))) ⌝ }
-    ensures { λ r. ⌜ now (table .exit) ≡ tableAfter (responsesOf s (length (now (table .entry)))) (tasksOf s) (now (table .entry)) ⌝ }
+    ensures { λ r. ⌜ ResponsesPromise s (now (table .entry)) r (now (table .exit)) ⌝ }
 {
     let z = sizes(s);
     let Sizes::Of(size) = z else {
@@ -338,7 +337,7 @@ pub fn responses(s: Sheet, table: &mut [u32]) -> Responses
 
 // The refusal in an answer that gives no table; number 0 for none.
 pub fn responses_refusal(a: Responses) -> Refusal
-    ensures { λ r. ⌜ r ≡ responsesRefusal a ⌝ }
+    ensures { λ r. ⌜ ResponsesRefusalPromise a r ⌝ }
 {
     let Responses::No(r) = a else {
         return Refusal::Number(0);
@@ -381,9 +380,7 @@ fn greatest_each(s: Sheet, h: u32, table: &[u32]) -> [u32; 16]
 
 // The job table as `responses` answers and leaves it, with "R, the greatest response" of each task in its place; zeros where it is refused.
 pub fn task_responses(s: Sheet, table: &mut [u32]) -> TaskResponses
-    ensures { λ r. ⌜ toldTotals (r .answer) ≡ responsesOf s (length (now (table .entry))) ⌝ }
-    ensures { λ r. ⌜ now (table .exit) ≡ tableAfter (responsesOf s (length (now (table .entry)))) (tasksOf s) (now (table .entry)) ⌝ }
-    ensures { λ r. ⌜ r .greatest ≡ greatestAfter (responsesOf s (length (now (table .entry)))) s ⌝ }
+    ensures { λ r. ⌜ TaskResponsesPromise s (now (table .entry)) r (now (table .exit)) ⌝ }
 {
     let answer = responses(s, &mut *table);
     let Responses::Table(totals) = answer else {

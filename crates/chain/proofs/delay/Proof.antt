@@ -8,14 +8,12 @@ use Rattle.theory.specs.Model.Schedule.{period}
 use Rattle.theory.specs.Model.Responses.{hyperperiod}
 use Rattle.answers.specs.Answers.{given, after, refusal}
 use Rattle.sheet.specs.Sound.{Sound, judged-sound}
-use Rattle.schedule.specs.Answer.{tasksOf, sizesOf, responsesOf, toldSize, toldTotals}
+use Rattle.schedule.specs.Answer.{tasksOf, sizesOf, responsesOf, toldSize, toldTotals, sizesRefusal, responsesRefusal}
 use Rattle.schedule.specs.Cases.{sizes-given}
 use Rattle.schedule.specs.Results.{responses-given}
-use Rattle.schedule.specs.Steps.{sizesRefusal}
 use Rattle.chain.specs.Answer.{chainOf, firstOf, delayAt, delayOf}
-use Rattle.schedule.specs.Steps.{responsesRefusal}
 use Rattle.chain.specs.SheetLaws.{job-early, job-release}
-use Rattle.chain.specs.Cases.{filled-taken, table-leaves, ended-no, ended-given, ended-number, sizes-untouched, delay-beyond, delay-between, delay-asked}
+use Rattle.chain.specs.Cases.{filled-taken, answers-no, answers-given, answers-number, sizes-untouched, delay-beyond, delay-between, delay-asked}
 use Rattle.schedule.specs.Results.{filled-holds}
 use Rattle.chain.proofs.delay.Statement.{statement}
 use Rattle.chain.proofs.delay.Tie as tie
@@ -62,13 +60,13 @@ returns c =
     let no = c .before .enum-told .given .1 in
     let e : sizesOf (a .s) ≡ refusal (c .sizes-refusal .result) =
     sym (c .before .before .before .sizes .ensures) ∙ ap toldSize no ∙ ap refusal (sym (c .sizes-refusal .ensures ∙ ap sizesRefusal no)) in
-    ended-no (tasksOf (a .s)) (a .table .now) _ (c .sizes-refusal .result) e (sizes-untouched (a .s) (a .table .now) (c .sizes-refusal .result) e)
+    answers-no (a .s) (a .table .now) _ (c .sizes-refusal .result) e (sizes-untouched (a .s) (a .table .now) (c .sizes-refusal .result) e)
 
 returns-2 : tie.Need-returns-2
 returns-2 c =
     let a = c .before .before .before .before .before .before .before .args in
     let f = fits (c .before .before .before) in
-    ended-number 12 (tasksOf (a .s)) (a .table .now) (omega arith)
+    answers-number 12 (a .s) (a .table .now) (omega arith)
     (delay-beyond (a .s) (length (a .table .now)) f (a .release) (omega (arith, c .if1 .taken, sizes-given _ f .hyperperiod-is)))
 
 first-period-requires : tie.Need-first-period-requires
@@ -80,7 +78,7 @@ rem-if2 c = c .first-period .ensures .1
 returns-3 : tie.Need-returns-3
 returns-3 c =
     let a = c .before .before .before .before .before .before .before .before .before .args in
-    ended-number 12 (tasksOf (a .s)) (a .table .now) (omega arith)
+    answers-number 12 (a .s) (a .table .now) (omega arith)
     (delay-between (a .s) (length (a .table .now)) (fits (c .before .before .before .before .before)) (a .release) (early (c .before .before)) (rw (← c .before .first-period .ensures .0) (c .if2 .taken)))
 
 responses-requires : tie.Need-responses-requires
@@ -104,9 +102,9 @@ returns-4 c =
     let r = c .before .before .before .before .before .responses in
     let no = c .before .enum-told2 .given .1 in
     rw (asked (c .before .before .before .before .before .before .before))
-    (ended-no (tasksOf (a .s)) (a .table .now) _ (c .responses-refusal .result)
+    (answers-no (a .s) (a .table .now) _ (c .responses-refusal .result)
     (sym (r .ensures .0) ∙ ap toldTotals no ∙ ap refusal (sym (c .responses-refusal .ensures ∙ ap responsesRefusal no)))
-    (r .ensures .1 ∙ table-leaves (responsesOf (a .s) (length (a .table .now))) (tasksOf (a .s)) (a .table .now)))
+    (r .ensures .1))
 
 div-delay-in : tie.Need-div-delay-in
 div-delay-in c = c .before .before .before .before .before .before .before .before .first-period .ensures .1
@@ -136,8 +134,8 @@ returns-5 c =
     let job : a .release / c .before .before .before .before .before .before .before .before .before .before .first-period .result * period (tasksOf (a .s)) (firstOf (chainOf (a .s))) ≡ a .release =
     rw (c .before .before .before .before .before .before .before .before .before .before .first-period .ensures .0) (job-release (tasksOf (a .s)) (firstOf (chainOf (a .s))) (a .release) (whole (c .before .before .before .before .before .before .before .before .before))) in
     rw (asked (c .before .before .before .before .before .before .before .before .before))
-    (ended-given (tasksOf (a .s)) (a .table .now) _ (filled (c .before .before .before)) (ap given (sym (c .delay-in .ensures ∙ ap (delayAt (tasksOf (a .s)) (chainOf (a .s))) job)))
-    (r .ensures .1 ∙ table-leaves (responsesOf (a .s) (length (a .table .now))) (tasksOf (a .s)) (a .table .now)))
+    (answers-given (a .s) (a .table .now) _ (filled (c .before .before .before)) (ap given (sym (c .delay-in .ensures ∙ ap (delayAt (tasksOf (a .s)) (chainOf (a .s))) job)))
+    (r .ensures .1))
 
 pub delay-spec : {M : Type 1} → statement M
 delay-spec =

@@ -5,9 +5,9 @@ use native.Mathlib.Omega.{arith}
 use lib.ListN.{length-map}
 use Rattle.answers.specs.Answers.{given, refusal}
 use Rattle.sheet.specs.Sound.{judged-sound}
-use Rattle.schedule.specs.Answer.{tasksOf, sizesOf, toldSize}
+use Rattle.schedule.specs.Answer.{tasksOf, sizesOf, toldSize, sizesRefusal}
 use Rattle.schedule.specs.Cases.{sizes-given}
-use Rattle.schedule.specs.Steps.{Taken, sizesRefusal, lateOf, Filled}
+use Rattle.schedule.specs.Steps.{Taken, lateOf, Filled}
 use Rattle.schedule.proofs.Endings.{ended-refused, ended-small, ended-late, ended-full}
 use borrow.Author.Needs.{needs}
 use Rattle.schedule.proofs.responses.Statement.{statement}

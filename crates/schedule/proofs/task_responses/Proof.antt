@@ -34,7 +34,7 @@ returns : tie.Need-returns
 returns c =
     let r = c .before .before .before .before .responses in
     let s = c .before .before .before .before .before .before .before .args .s in
-    (r .ensures .0, (r .ensures .1, greatest-none (c .enum-told .given .0 .0) s ∙ sym (ap (λ a. greatestAfter a s) (sym (r .ensures .0) ∙ ap toldTotals (c .enum-told .given .1)))))
+    (r .ensures, greatest-none (c .enum-told .given .0 .0) s ∙ sym (ap (λ a. greatestAfter a s) (sym (r .ensures .0) ∙ ap toldTotals (c .enum-told .given .1))))
 
 greatest-each-requires : tie.Need-greatest-each-requires
 greatest-each-requires c κs =
@@ -59,7 +59,7 @@ returns-2 c =
     let r = c .before .before .before .before .before .before .before .responses in
     let s = c .before .before .before .before .before .before .before .before .before .before .args .s in
     let e = sym (r .ensures .0) ∙ ap toldTotals (c .before .before .before .answer .given .1) in
-    (sym e, (r .ensures .1, c .greatest-each .ensures ∙ sym (ap (λ a. greatestAfter a s) e)))
+    ((sym e, r .ensures .1), c .greatest-each .ensures ∙ sym (ap (λ a. greatestAfter a s) e))
 
 pub task-responses-spec : {M : Type 1} → statement M
 task-responses-spec =

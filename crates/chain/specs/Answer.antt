@@ -5,14 +5,14 @@ use mathlib.Core.List.{List}
 use Prim.Native.Nat.{ℕ, _%_}
 use lib.Dec.{ltb, leb}
 use lib.IntN.{ℤ, pos, _-ℤ_}
-use lib.ListN.{getD, take, drop}
 use Rattle.theory.specs.declared.Task.{Task}
 use Rattle.theory.specs.Model.Schedule.{period}
 use Rattle.theory.specs.Model.Responses.{response, hyperperiod, taskResponse}
 use Rattle.theory.specs.Model.Chain.{delay, worst, worstRelease, bound}
 use Rattle.sheet.specs.declared.Sheet.{Sheet}
 use Rattle.answers.specs.Answers.{Answer, given, when, after, also, refusal}
-use Rattle.schedule.specs.Answer.{tasksOf, sizesOf, responsesOf}
+use Rattle.sheet.specs.Tasks.{tasksOf, chainOf, firstOf, restOf}
+use Rattle.schedule.specs.Answer.{sizesOf, responsesOf}
 use Rattle.schedule.specs.declared.answer.Totals.{Totals}
 use Rattle.chain.specs.declared.answer.Figure.{Figure}
 use Rattle.chain.specs.declared.answer.Delay.{Delay}
@@ -26,16 +26,6 @@ use Rattle.chain.specs.declared.answer.Margin.the-variants.{Ticks as Mar
 use Rattle.chain.specs.declared.answer.Summary.{Summary}
 use Rattle.chain.specs.declared.answer.Figures.{Figures}
 use Rattle.chain.specs.declared.answer.Figures.the-variants.{Of, No as NoFigures}
-
--- The chain on a sheet is in the first `length` of its sixteen places: its first task, and those that follow.
-abbrev pub chainOf : Sheet → List ℕ
-chainOf s = take (s .length) (s .chain)
-
-abbrev pub firstOf : List ℕ → ℕ
-firstOf chain = getD chain 0 0
-
-abbrev pub restOf : List ℕ → List ℕ
-restOf chain = drop 1 chain
 
 -- The figures of a chain, by the responses of the full-budget schedule.
 abbrev pub delayAt : List Task → List ℕ → ℕ → ℕ

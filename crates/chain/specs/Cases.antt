@@ -13,23 +13,14 @@ use Rattle.sheet.specs.declared.Sheet.{Sheet}
 use Rattle.answers.specs.declared.Refusal.{Refusal}
 use Rattle.answers.specs.Answers.{Answer, given, refused, after, numberIn, refusal}
 use Rattle.answers.specs.NumberLaws.{Numbered, given-numbered, numbered-wider, when-numbered, after-numbered, also-numbered}
-use Rattle.sheet.specs.Sound.{judged-sound}
+use Rattle.sheet.specs.Tasks.{tasksOf, chainOf, firstOf}
 use Rattle.schedule.specs.declared.answer.Totals.{Totals}
 use Rattle.schedule.specs.declared.answer.Size.{Size}
-use Rattle.schedule.specs.Answer.{tasksOf, sizesOf, responsesOf, tableAfter}
+use Rattle.schedule.specs.Answer.{sizesOf, responsesOf, tableAfter}
 use Rattle.schedule.specs.Cases.{sizes-numbered, responses-numbered}
 use Rattle.schedule.specs.Promises.{AnswersAs}
-use Rattle.schedule.specs.Results.{responses-given}
 use Rattle.chain.specs.declared.answer.Figure.{Figure}
-use Rattle.chain.specs.Answer.{chainOf, firstOf, delayAt, figureOf, quickBound, less, noRelease, summaryOf, mostLimit, delayOf, worstOf, boundOf, marginOf, figuresOf}
-use Rattle.chain.specs.Steps.{Taken}
-
--- ---- the sheet and the table behind a filled answer
-
-pub filled-taken : (s : Sheet) (room : ℕ) {totals : Totals} → responsesOf s room ≡ given totals → Taken s
-filled-taken s room e =
-    let g = responses-given s room e in
-    record { sound = judged-sound s (g .judged-fine); accepted = g .accepted; short = g .hyperperiod-most; few = g .jobs-most }
+use Rattle.chain.specs.Answer.{delayAt, figureOf, quickBound, less, noRelease, summaryOf, mostLimit, delayOf, worstOf, boundOf, marginOf, figuresOf}
 
 -- ---- how a call ends
 

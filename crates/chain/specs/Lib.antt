@@ -9,10 +9,10 @@ pub mod ReadLaws
 pub mod Largest
 pub mod WalkLaws
 pub mod FollowLaws
-pub mod SheetLaws
+pub mod ReleaseLaws
 pub mod GatherLaws
 pub mod AlikeLaws
-pub mod PlanLaws
+pub mod ArrayLaws
 pub mod Cases
 pub mod Answered
 -- The results: what an answer says of every schedule, and one answer for each input.

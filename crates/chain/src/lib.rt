@@ -25,11 +25,13 @@ ghost use Rattle.theory.specs.Model.Responses.{hyperperiod, jobs};
 ghost use Rattle.theory.specs.Model.Schedule.{period, release};
 ghost use Rattle.theory.specs.Model.Chain.{bound};
 ghost use Rattle.sheet.specs.Sound.{Sound};
-ghost use Rattle.schedule.specs.Answer.{mostTicks, tasksOf};
-ghost use Rattle.chain.specs.Answer.{chainOf, firstOf, restOf, delayAt, figureOf, quickBound, less, mostLimit};
+ghost use Rattle.sheet.specs.Tasks.{tasksOf, chainOf, firstOf, restOf};
+ghost use Rattle.schedule.specs.Answer.{mostTicks};
+ghost use Rattle.chain.specs.Answer.{delayAt, figureOf, quickBound, less, mostLimit};
 ghost use Rattle.chain.specs.Promises.{DelayPromise, WorstPromise, BoundPromise, MarginPromise, DefaultMarginPromise, FiguresPromise};
+ghost use Rattle.schedule.specs.Results.{Taken};
 ghost use Rattle.schedule.specs.Steps.{Holds};
-ghost use Rattle.chain.specs.Steps.{mostWait, mostFigure, mostRelease, Taken, tasksIn, rowsIn, greatestIn, delayIn, onward, ahead, HandedOver, Opened, Row, Entry, Path, Greatest, pairBound, Gathered, worstRefusal};
+ghost use Rattle.chain.specs.Steps.{mostWait, mostFigure, mostRelease, tasksIn, rowsIn, greatestIn, delayIn, onward, ahead, HandedOver, Opened, Row, Entry, Path, Greatest, pairBound, Gathered, worstRefusal};
 
 // "margin limit 0 to 4,000,000"
 const MOST_LIMIT: u32 = 4000000;
@@ -45,10 +47,10 @@ fn gather(
     starts: &mut [u32; 16],
     counts: &mut [u32; 16],
 )
-    requires { ⌜ Taken s ⌝ }
+    requires { ⌜ Sound s × Taken (tasksOf s) ⌝ }
     requires { ⌜ h ≡ hyperperiod (tasksOf s) ⌝ }
     requires { ⌜ (length (now periods) ≡ 16) × (length (now ranks) ≡ 16) × (length (now starts) ≡ 16) × (length (now counts) ≡ 16) ⌝ }
-    ensures { λ _. ⌜ Gathered (tasksOf s) (s .count) (now (periods .exit)) (now (ranks .exit)) (now (starts .exit)) (now (counts .exit)) ⌝ }
+    ensures { λ _. ⌜ Gathered (tasksOf s) (length (tasksOf s)) (now (periods .exit)) (now (ranks .exit)) (now (starts .exit)) (now (counts .exit)) ⌝ }
 {
     let n = s.count as usize;
     let mut from = 0u32;
@@ -264,7 +266,7 @@ fn bound_along(
 
 // The delay of the sheet's chain at job k of its first task.
 fn delay_in(s: Sheet, h: u32, k: u32, table: &[u32]) -> u32
-    requires { ⌜ Taken s ⌝ }
+    requires { ⌜ Sound s × Taken (tasksOf s) ⌝ }
     requires { ⌜ h ≡ hyperperiod (tasksOf s) ⌝ }
     requires { ⌜ Holds (tasksOf s) (now table) ⌝ }
     requires { ⌜ k < jobs (tasksOf s) (firstOf (chainOf s)) ⌝ }
@@ -282,7 +284,7 @@ fn delay_in(s: Sheet, h: u32, k: u32, table: &[u32]) -> u32
 
 // The worst figure of the sheet's chain.
 fn worst_in(s: Sheet, h: u32, table: &[u32]) -> Figure
-    requires { ⌜ Taken s ⌝ }
+    requires { ⌜ Sound s × Taken (tasksOf s) ⌝ }
     requires { ⌜ h ≡ hyperperiod (tasksOf s) ⌝ }
     requires { ⌜ Holds (tasksOf s) (now table) ⌝ }
     ensures { λ r. ⌜ r ≡ figureOf (tasksOf s) (chainOf s) ⌝ }
@@ -299,7 +301,7 @@ fn worst_in(s: Sheet, h: u32, table: &[u32]) -> Figure
 
 // The quick bound of the sheet's chain.
 fn bound_in(s: Sheet, h: u32, table: &[u32]) -> u32
-    requires { ⌜ Taken s ⌝ }
+    requires { ⌜ Sound s × Taken (tasksOf s) ⌝ }
     requires { ⌜ h ≡ hyperperiod (tasksOf s) ⌝ }
     requires { ⌜ Holds (tasksOf s) (now table) ⌝ }
     ensures { λ r. ⌜ r ≡ quickBound (tasksOf s) (chainOf s) ⌝ }

@@ -3,7 +3,7 @@ use mathlib.Core.List.{List, [], _∷_, _++_}
 use mathlib.Core.Bool.{Bool, cond}
 use Prim.Native.Nat.{ℕ, zero, suc}
 use lib.Dec.{ltb, eqb}
-use lib.ListN.{length, take, drop, replicate}
+use lib.ListN.{length, drop, replicate}
 use Rattle.bits.specs.Bits.{listOf}
 use Rattle.theory.specs.declared.Task.{Task}
 use Rattle.arith.specs.Ranges.{least}
@@ -15,16 +15,13 @@ use Rattle.answers.specs.declared.Refusal.{Refusal}
 use Rattle.answers.specs.declared.Refusal.the-variants.{Number}
 use Rattle.answers.specs.Answers.{Answer, given, refused, Judgement, fine, when, after, also, refusal}
 use Rattle.sheet.specs.Calls.{places, judgeOf}
+use Rattle.sheet.specs.Tasks.{tasksOf}
 use Rattle.schedule.specs.declared.answer.Totals.{Totals}
 use Rattle.schedule.specs.declared.answer.Responses.{Responses}
 use Rattle.schedule.specs.declared.answer.Responses.the-variants.{Table, No}
 use Rattle.schedule.specs.declared.answer.Size.{Size}
 use Rattle.schedule.specs.declared.answer.Sizes.{Sizes}
 use Rattle.schedule.specs.declared.answer.Sizes.the-variants.{Of, No as NoSize}
-
--- The tasks on a sheet are in the first `count` of its sixteen places.
-unfoldable pub tasksOf : Sheet → List Task
-tasksOf s = take (s .count) (s .tasks)
 
 -- Whether job k of task i is "unfinished at its task's next release" "in the full-budget schedule".
 abbrev pub late : List Task → ℕ → ℕ → Bool

@@ -6,10 +6,11 @@ use lib.ListN.{length}
 use Rattle.answers.specs.declared.Refusal.{Refusal}
 use Rattle.answers.specs.Answers.{Answer}
 use Rattle.sheet.specs.declared.Sheet.{Sheet}
+use Rattle.sheet.specs.Tasks.{tasksOf}
 use Rattle.schedule.specs.declared.answer.Responses.{Responses}
 use Rattle.schedule.specs.declared.answer.TaskResponses.{TaskResponses}
 use Rattle.schedule.specs.declared.answer.Sizes.{Sizes}
-use Rattle.schedule.specs.Answer.{tasksOf, sizesOf, responsesOf, tableAfter, greatestAfter, toldSize, toldTotals, sizesRefusal, responsesRefusal}
+use Rattle.schedule.specs.Answer.{sizesOf, responsesOf, tableAfter, greatestAfter, toldSize, toldTotals, sizesRefusal, responsesRefusal}
 
 abbrev pub SizesPromise : Sheet → Sizes → Type 0
 SizesPromise s r = toldSize r ≡ sizesOf s

@@ -25,9 +25,11 @@ ghost use Rattle.arith.specs.Limit.{told, within};
 ghost use Rattle.arith.specs.Ranges.{maximum};
 ghost use Rattle.theory.specs.Model.Responses.{hyperperiod, jobs, allJobs, taskResponse};
 ghost use Rattle.sheet.specs.Calls.{places};
-ghost use Rattle.schedule.specs.Answer.{mostTicks, tasksOf};
+ghost use Rattle.sheet.specs.Sound.{Sound};
+ghost use Rattle.sheet.specs.Tasks.{tasksOf};
+ghost use Rattle.schedule.specs.Answer.{mostTicks};
 ghost use Rattle.schedule.specs.Promises.{SizesPromise, SizesRefusalPromise, ResponsesPromise, ResponsesRefusalPromise, TaskResponsesPromise};
-ghost use Rattle.schedule.specs.Steps.{Taken, Period, Holds, lateOf, coming, PlaceOf, Level, Ready, Turned, Walk, Walked, Places, RowFilled, Noted, FoundTo, Filled};
+ghost use Rattle.schedule.specs.Steps.{Period, Holds, lateOf, coming, PlaceOf, Level, Ready, Turned, Walk, Walked, Places, RowFilled, Noted, FoundTo, Filled};
 
 // "H at most 1,000,000; J at most 8,192"
 const MOST_TICKS: u32 = 1000000;
@@ -36,7 +38,7 @@ const MOST_JOBS: u32 = 8192;
 
 // The hyperperiod: the least common multiple of all periods, or that it is over its limit.
 fn hyperperiod(s: Sheet) -> Multiple
-    requires { ⌜ Taken s ⌝ }
+    requires { ⌜ Sound s ⌝ }
     ensures { λ r. ⌜ told r ≡ within mostTicks (hyperperiod (tasksOf s)) ⌝ }
 {
     let mut multiple = 1u32;
@@ -54,7 +56,7 @@ fn hyperperiod(s: Sheet) -> Multiple
 
 // The jobs of all tasks before tick h, the hyperperiod.
 fn job_count(s: Sheet, h: u32) -> u32
-    requires { ⌜ Taken s ⌝ ∗ ⌜ Period s h ⌝ }
+    requires { ⌜ Sound s ⌝ ∗ ⌜ Period s h ⌝ }
     ensures { λ r. ⌜ r ≡ allJobs (tasksOf s) ⌝ }
 {
     let n = s.count as usize;
@@ -107,7 +109,7 @@ fn place_of(periods: &[u32; 16], size: usize, period: u32) -> usize
 // The periods of the tasks that outrank task i, how many they are, and the budgets of each. Tasks of one period are released
 // together, so they take one place.
 fn gather(s: Sheet, i: usize, periods: &mut [u32; 16], budgets: &mut [u32; 16]) -> usize
-    requires { ⌜ Taken s ⌝ ∗ ⌜ (i < s .count) × (length (now periods) ≡ 16) × (length (now budgets) ≡ 16) ⌝ }
+    requires { ⌜ Sound s ⌝ ∗ ⌜ (i < s .count) × (length (now periods) ≡ 16) × (length (now budgets) ≡ 16) ⌝ }
     ensures { λ r. ⌜ Level (tasksOf s) i (now (periods .exit)) (now (budgets .exit)) r ⌝ }
 {
     let n = s.count as usize;
@@ -215,7 +217,7 @@ fn walk(
 
 // Fills the row of task i, from the numbers of its level.
 fn fill_row(s: Sheet, i: usize, h: u32, row: &mut [u32]) -> Row
-    requires { ⌜ Taken s ⌝ ∗ ⌜ Period s h ⌝ ∗ ⌜ (i < s .count) × (length (now row) ≡ jobs (tasksOf s) i) ⌝ }
+    requires { ⌜ Sound s ⌝ ∗ ⌜ Period s h ⌝ ∗ ⌜ (i < s .count) × (length (now row) ≡ jobs (tasksOf s) i) ⌝ }
     ensures { λ r. ⌜ RowFilled (tasksOf s) i (now (row .exit)) r ⌝ }
 {
     let mut periods = [0u32; 16];
@@ -226,7 +228,7 @@ fn fill_row(s: Sheet, i: usize, h: u32, row: &mut [u32]) -> Row
 
 // What the rows tell up to that of task i, from what those before it and its own tell.
 fn noted(s: Sheet, found: Found, i: usize, row: Row) -> Found
-    requires { ⌜ Taken s ⌝ ∗ ⌜ i < s .count ⌝ ∗ ⌜ FoundTo (tasksOf s) i found ⌝ ∗ ⌜ Noted (tasksOf s) i row ⌝ }
+    requires { ⌜ Sound s ⌝ ∗ ⌜ i < s .count ⌝ ∗ ⌜ FoundTo (tasksOf s) i found ⌝ ∗ ⌜ Noted (tasksOf s) i row ⌝ }
     ensures { λ r. ⌜ FoundTo (tasksOf s) (suc i) r ⌝ }
 {
     let index = i as u8;
@@ -256,7 +258,7 @@ fn noted(s: Sheet, found: Found, i: usize, row: Row) -> Found
 
 // Fills the table row by row, each in its own part of the table.
 fn fill_rows(s: Sheet, h: u32, table: &mut [u32]) -> Found
-    requires { ⌜ Taken s ⌝ ∗ ⌜ Period s h ⌝ ∗ ⌜ allJobs (tasksOf s) ≤ length (now table) ⌝ }
+    requires { ⌜ Sound s ⌝ ∗ ⌜ Period s h ⌝ ∗ ⌜ allJobs (tasksOf s) ≤ length (now table) ⌝ }
     ensures { λ r. ⌜ Filled (tasksOf s) (s .count) (allJobs (tasksOf s)) (now (table .entry)) (now (table .exit)) r ⌝ }
 {
     let n = s.count as usize;
@@ -362,7 +364,7 @@ pub fn greatest(row: &[u32]) -> u32
 
 // R of each task, in sixteen places, from the rows of a table.
 fn greatest_each(s: Sheet, h: u32, table: &[u32]) -> [u32; 16]
-    requires { ⌜ Taken s ⌝ ∗ ⌜ Period s h ⌝ ∗ ⌜ Holds (tasksOf s) (now table) ⌝ }
+    requires { ⌜ Sound s ⌝ ∗ ⌜ Period s h ⌝ ∗ ⌜ Holds (tasksOf s) (now table) ⌝ }
     ensures { λ r. ⌜ r ≡ places 0 (s .count) (taskResponse (tasksOf s)) ⌝ }
 {
     let n = s.count as usize;

@@ -2,6 +2,7 @@
 pub mod Fields
 pub mod Calls
 pub mod Told
+pub mod Tasks
 -- The laws of the fields and of the calls.
 pub mod Steps
 pub mod FieldLaws
@@ -12,6 +13,7 @@ pub mod EachLaws
 pub mod FormatLaws
 pub mod RoomLaws
 pub mod Sound
+pub mod TaskLaws
 -- The results: round trips, long inputs, and one answer for each input.
 pub mod RoundTrip
 pub mod Front

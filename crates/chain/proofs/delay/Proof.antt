@@ -8,13 +8,15 @@ use Rattle.theory.specs.Model.Schedule.{period}
 use Rattle.theory.specs.Model.Responses.{hyperperiod}
 use Rattle.answers.specs.Answers.{given, after, refusal}
 use Rattle.sheet.specs.Sound.{Sound, judged-sound}
-use Rattle.schedule.specs.Answer.{tasksOf, sizesOf, responsesOf, toldSize, toldTotals, sizesRefusal, responsesRefusal}
+use Rattle.theory.specs.Analysis.ChainLaws.{chain-head}
+use Rattle.sheet.specs.TaskLaws.{chain-known}
+use Rattle.sheet.specs.Tasks.{tasksOf, chainOf, firstOf, restOf}
+use Rattle.schedule.specs.Answer.{sizesOf, responsesOf, toldSize, toldTotals, sizesRefusal, responsesRefusal}
 use Rattle.schedule.specs.Cases.{sizes-given}
-use Rattle.schedule.specs.Results.{responses-given}
-use Rattle.chain.specs.Answer.{chainOf, firstOf, delayAt, delayOf}
-use Rattle.chain.specs.SheetLaws.{job-early, job-release}
-use Rattle.chain.specs.Cases.{filled-taken, answers-no, answers-given, answers-number, sizes-untouched, delay-beyond, delay-between, delay-asked}
-use Rattle.schedule.specs.Results.{filled-holds}
+use Rattle.chain.specs.Answer.{delayAt, delayOf}
+use Rattle.chain.specs.Answered.{filled-ready}
+use Rattle.chain.specs.ReleaseLaws.{job-early, job-release}
+use Rattle.chain.specs.Cases.{answers-no, answers-given, answers-number, sizes-untouched, delay-beyond, delay-between, delay-asked}
 use Rattle.chain.proofs.delay.Statement.{statement}
 use Rattle.chain.proofs.delay.Tie as tie
 
@@ -112,14 +114,13 @@ div-delay-in c = c .before .before .before .before .before .before .before .befo
 delay-in-requires : tie.Need-delay-in-requires
 delay-in-requires c κs =
     let a = c .before .before .before .before .before .before .before .before .before .before .before .before .before .before .before .before .before .args in
-    let f = filled (c .before .before) in
-    let taken = filled-taken (a .s) (length (a .table .now)) f in (
-      taken,
+    let f = filled-ready (a .s) (a .table .now) (filled (c .before .before)) (c .before .before .before .before .before .before .responses .ensures .1) in (
+      f .0,
       (
-        responses-given (a .s) (length (a .table .now)) f .hyperperiod-is,
+        f .1 .0,
         (
-          filled-holds (a .s) (a .table .now) f (c .before .before .before .before .before .before .responses .ensures .1),
-          rw (c .before .before .before .before .before .before .before .before .before .first-period .ensures .0) (job-early (taken .sound) (taken .accepted .proper) (a .release) (early (c .before .before .before .before .before .before .before .before .before .before))),
+          f .1 .1,
+          rw (c .before .before .before .before .before .before .before .before .before .first-period .ensures .0) (job-early (f .0 .1 .accepted .proper) (firstOf (chainOf (a .s))) (chain-head (tasksOf (a .s)) (firstOf (chainOf (a .s))) (restOf (chainOf (a .s))) (chain-known (f .0 .0))) (a .release) (early (c .before .before .before .before .before .before .before .before .before .before))),
         ),
       ),
     )

@@ -7,14 +7,16 @@ use mir.ValLaws.{toZ-ofZ}
 use borrow.Author.Needs.{needs}
 use Rattle.theory.specs.Model.Responses.{hyperperiod}
 use Rattle.answers.specs.Answers.{given, refusal}
-use Rattle.schedule.specs.Answer.{tasksOf, responsesOf, toldTotals, responsesRefusal}
-use Rattle.schedule.specs.Results.{responses-given, filled-holds}
+use Rattle.sheet.specs.Sound.{Sound}
+use Rattle.sheet.specs.Tasks.{tasksOf, chainOf}
+use Rattle.schedule.specs.Answer.{responsesOf, toldTotals, responsesRefusal}
+use Rattle.schedule.specs.Results.{Taken}
 use Rattle.schedule.specs.Steps.{Holds}
 use Rattle.chain.specs.declared.answer.Summary.{Summary}
-use Rattle.chain.specs.Answer.{chainOf, summaryOf, figuresOf}
-use Rattle.chain.specs.Steps.{Taken}
-use Rattle.chain.specs.Cases.{filled-taken, answers-no, answers-given}
-use Rattle.chain.specs.Answered.{worst-most}
+use Rattle.chain.specs.Answer.{summaryOf, figuresOf}
+use Rattle.chain.specs.Steps.{TakenChain}
+use Rattle.chain.specs.Cases.{answers-no, answers-given}
+use Rattle.chain.specs.Answered.{filled-chain, filled-ready, worst-most}
 use Rattle.chain.proofs.figures.Statement.{statement}
 use Rattle.chain.proofs.figures.Tie as tie
 
@@ -29,11 +31,11 @@ module _ (c : tie.After-answer) where
   filled : responsesOf (start .args .s) (length (start .args .table .now)) ≡ given (c .answer .given .0 .0)
   filled = sym (done .task-responses .ensures .0 .0) ∙ ap toldTotals (c .answer .given .1)
 
-  taken : Taken (start .args .s)
-  taken = filled-taken (start .args .s) (length (start .args .table .now)) filled
+  taken : TakenChain (tasksOf (start .args .s)) (chainOf (start .args .s))
+  taken = filled-chain (start .args .s) (length (start .args .table .now)) filled
 
-  ready : Taken (start .args .s) × ((c .answer .given .0 .0 .hyperperiod ≡ hyperperiod (tasksOf (start .args .s))) × Holds (tasksOf (start .args .s)) (done .task-responses .last .1 .0))
-  ready = (taken, (responses-given (start .args .s) (length (start .args .table .now)) filled .hyperperiod-is, filled-holds (start .args .s) (start .args .table .now) filled (done .task-responses .ensures .0 .1)))
+  ready : (Sound (start .args .s) × Taken (tasksOf (start .args .s))) × ((c .answer .given .0 .0 .hyperperiod ≡ hyperperiod (tasksOf (start .args .s))) × Holds (tasksOf (start .args .s)) (done .task-responses .last .1 .0))
+  ready = filled-ready (start .args .s) (start .args .table .now) filled (done .task-responses .ensures .0 .1)
 
 task-responses-requires : tie.Need-task-responses-requires
 task-responses-requires c κs = search needs

@@ -4,10 +4,9 @@ use lib.ListN.{length}
 use borrow.Author.Needs.{needs}
 use Rattle.answers.specs.Answers.{given, refusal}
 use Rattle.schedule.specs.Answer.{responsesOf, toldTotals, responsesRefusal}
-use Rattle.schedule.specs.Results.{responses-given}
 use Rattle.chain.specs.Answer.{worstOf}
-use Rattle.chain.specs.Cases.{filled-taken, answers-no, answers-given}
-use Rattle.schedule.specs.Results.{filled-holds}
+use Rattle.chain.specs.Cases.{answers-no, answers-given}
+use Rattle.chain.specs.Answered.{filled-ready}
 use Rattle.chain.proofs.worst.Statement.{statement}
 use Rattle.chain.proofs.worst.Tie as tie
 
@@ -43,10 +42,7 @@ returns c =
 worst-in-requires : tie.Need-worst-in-requires
 worst-in-requires c κs =
     let a = c .before .before .before .before .before .before .before .before .before .args in
-    let f = filled (c .before .before) in (
-      filled-taken (a .s) (length (a .table .now)) f,
-      (responses-given (a .s) (length (a .table .now)) f .hyperperiod-is, filled-holds (a .s) (a .table .now) f (c .before .before .before .before .before .before .responses .ensures .1)),
-    )
+    filled-ready (a .s) (a .table .now) (filled (c .before .before)) (c .before .before .before .before .before .before .responses .ensures .1)
 
 same-length-2 : tie.Need-same-length-2
 same-length-2 c = search needs

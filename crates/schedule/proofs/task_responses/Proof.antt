@@ -1,7 +1,7 @@
 -- The rows that `responses` leaves hold each task's responses, so the greatest entry of a row is R of its task.
 use mathlib.Core.Path.{_≡_, refl, sym, ap, _∙_}
 use native.Mathlib.Omega.{arith}
-use lib.ListN.{length, replicate, length-map}
+use lib.ListN.{length, replicate}
 use Rattle.bits.specs.Bits.{listOf}
 use Rattle.sheet.specs.declared.Sheet.{Sheet}
 use Rattle.answers.specs.declared.Refusal.{Refusal}
@@ -44,7 +44,7 @@ greatest-each-requires c κs =
     let old = a .args .table .now in
     let e = sym (r .ensures .0) ∙ ap toldTotals (c .before .before .answer .given .1) in
     let g = responses-given s (length old) e in (
-      record { sound = judged-sound s (g .judged-fine); whole = sym (length-map (s .tasks) _) ∙ a .good .0 .1 .1 .0 .1 .0 .1 },
+      judged-sound s (g .judged-fine),
       (
         record { is-hyperperiod = g .hyperperiod-is; within-limit = omega (arith, g) },
         filled-holds s old e (r .ensures .1),

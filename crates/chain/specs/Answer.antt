@@ -1,17 +1,18 @@
--- What the calls answer, and what they leave in the table. Quotations are from document 01.
+-- What the calls answer. Each leaves in the table what `responses` leaves with an answer, or with a refusal of that number
+-- (`tableAfter` of schedule). Quotations are from document 01.
 use mathlib.Core.Bool.{Bool, true, cond}
-use mathlib.Core.List.{List, _++_}
+use mathlib.Core.List.{List}
 use Prim.Native.Nat.{ℕ, _%_}
 use lib.Dec.{ltb, leb}
 use lib.IntN.{ℤ, pos, _-ℤ_}
-use lib.ListN.{length, getD, take, drop}
 use Rattle.theory.specs.declared.Task.{Task}
 use Rattle.theory.specs.Model.Schedule.{period}
-use Rattle.theory.specs.Model.Responses.{response, hyperperiod, allJobs, taskResponse}
+use Rattle.theory.specs.Model.Responses.{response, hyperperiod, taskResponse}
 use Rattle.theory.specs.Model.Chain.{delay, worst, worstRelease, bound}
 use Rattle.sheet.specs.declared.Sheet.{Sheet}
-use Rattle.answers.specs.Answers.{Answer, given, refused, when, after, also, refusal}
-use Rattle.schedule.specs.Answer.{tasksOf, sizesOf, responsesOf, rows, tableAfter}
+use Rattle.answers.specs.Answers.{Answer, given, when, after, also, refusal}
+use Rattle.sheet.specs.Tasks.{tasksOf, chainOf, firstOf, restOf}
+use Rattle.schedule.specs.Answer.{sizesOf, responsesOf}
 use Rattle.schedule.specs.declared.answer.Totals.{Totals}
 use Rattle.chain.specs.declared.answer.Figure.{Figure}
 use Rattle.chain.specs.declared.answer.Delay.{Delay}
@@ -25,16 +26,6 @@ use Rattle.chain.specs.declared.answer.Margin.the-variants.{Ticks as Mar
 use Rattle.chain.specs.declared.answer.Summary.{Summary}
 use Rattle.chain.specs.declared.answer.Figures.{Figures}
 use Rattle.chain.specs.declared.answer.Figures.the-variants.{Of, No as NoFigures}
-
--- The chain on a sheet is in the first `length` of its sixteen places: its first task, and those that follow.
-abbrev pub chainOf : Sheet → List ℕ
-chainOf s = take (s .length) (s .chain)
-
-abbrev pub firstOf : List ℕ → ℕ
-firstOf chain = getD chain 0 0
-
-abbrev pub restOf : List ℕ → List ℕ
-restOf chain = drop 1 chain
 
 -- The figures of a chain, by the responses of the full-budget schedule.
 abbrev pub delayAt : List Task → List ℕ → ℕ → ℕ
@@ -107,11 +98,6 @@ unfoldable pub figuresOf : Sheet → ℕ → Answer Summary
 figuresOf s room =
     after (responsesOf s room) λ totals.
     given (summaryOf (tasksOf s) (chainOf s) totals)
-
--- Each call leaves the rows in the table, or what `responses` leaves with a refusal of that number.
-abbrev pub leaves : {A : Type 0} → Answer A → List Task → List ℕ → List ℕ
-leaves (given x) ts old = rows ts (length ts) ++ drop (allJobs ts) old
-leaves (refused number values) ts old = tableAfter (refused number values) ts old
 
 -- Document 01's answer for each case of the code's enums.
 abbrev pub toldDelay : Delay → Answer ℕ

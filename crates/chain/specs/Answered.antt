@@ -1,4 +1,4 @@
--- What an answer tells of its sheet: the sheet is taken, and the figure is the chain's and at most 3,100,000.
+-- What an answer tells: the tasks are taken, and the figure is the chain's and at most 3,100,000.
 use mathlib.Core.Path.{_≡_, sym}
 use mathlib.Core.Bool.{Bool, true, false, cond, false≢true}
 use mathlib.Core.List.{List}
@@ -7,7 +7,7 @@ use native.Mathlib.Nat.{le-trans}
 use native.Mathlib.Omega.{arith}
 use lib.Dec.{ltb, leb}
 use lib.IntN.{ℤ}
-use lib.ListN.{length, length-take, length-drop}
+use lib.ListN.{length, length-drop}
 use borrow.Author.Tests.{ltb-false}
 use Rattle.theory.specs.declared.Task.{Task}
 use Rattle.arith.specs.RangeLaws.{maximum-least}
@@ -18,29 +18,47 @@ use Rattle.theory.specs.Model.Chain.{delay, worst}
 use Rattle.sheet.specs.declared.Sheet.{Sheet}
 use Rattle.answers.specs.Answers.{given, when, after}
 use Rattle.answers.specs.AnswerLaws.{when-fine, also-given, after-given}
-use Rattle.schedule.specs.Answer.{tasksOf, sizesOf, responsesOf}
+use Rattle.sheet.specs.Tasks.{tasksOf, chainOf, firstOf, restOf}
+use Rattle.sheet.specs.Sound.{Sound, judged-sound}
+use Rattle.sheet.specs.TaskLaws.{chain-known, chain-most}
+use Rattle.schedule.specs.Answer.{sizesOf, responsesOf, tableAfter}
+use Rattle.schedule.specs.declared.answer.Totals.{Totals}
+use Rattle.schedule.specs.Results.{responses-given, Taken, given-taken, filled-holds}
+use Rattle.schedule.specs.Steps.{Holds}
 use Rattle.chain.specs.declared.answer.Figure.{Figure}
-use Rattle.chain.specs.Answer.{chainOf, firstOf, restOf, delayAt, figureOf, quickBound, less, noRelease, mostLimit, delayOf, worstOf, boundOf, marginOf}
-use Rattle.chain.specs.Steps.{Taken, mostFigure}
+use Rattle.chain.specs.Answer.{delayAt, figureOf, quickBound, less, noRelease, mostLimit, delayOf, worstOf, boundOf, marginOf}
+use Rattle.chain.specs.Steps.{TakenChain, mostFigure}
 use Rattle.chain.specs.Largest.{along-chain, Small, delay-most}
-use Rattle.chain.specs.SheetLaws.{period-positive, period-most, chain-known}
-use Rattle.chain.specs.Cases.{filled-taken}
 
--- The answer of a chain's call is given for a sheet that is taken.
-pub figure-given : {A : Type 0} (s : Sheet) (room : ℕ) (y : A) {x : A} → after (responsesOf s room) (λ totals. given y) ≡ given x → Taken s × (y ≡ x)
+-- The chain on a sheet whose tasks are taken.
+pub sheet-chain : {s : Sheet} → Sound s → Taken (tasksOf s) → TakenChain (tasksOf s) (chainOf s)
+sheet-chain sound taken = record { tasks = taken; known = chain-known sound; few = chain-most sound }
+
+-- The answer of a chain's call is given for such a chain.
+pub filled-chain : (s : Sheet) (room : ℕ) {totals : Totals} → responsesOf s room ≡ given totals → TakenChain (tasksOf s) (chainOf s)
+filled-chain s room e = sheet-chain (judged-sound s (responses-given s room e .judged-fine)) (given-taken s room e)
+
+-- A table that is filled: what its figures are worked out from.
+pub filled-ready : (s : Sheet) (old : List ℕ) {table : List ℕ} {totals : Totals} → responsesOf s (length old) ≡ given totals → table ≡ tableAfter (responsesOf s (length old)) (tasksOf s) old
+    → (Sound s × Taken (tasksOf s)) × ((totals .hyperperiod ≡ hyperperiod (tasksOf s)) × Holds (tasksOf s) table)
+filled-ready s old e q =
+    let g = responses-given s (length old) e in
+    ((judged-sound s (g .judged-fine), given-taken s (length old) e), (g .hyperperiod-is, filled-holds s old e q))
+
+pub figure-given : {A : Type 0} (s : Sheet) (room : ℕ) (y : A) {x : A} → after (responsesOf s room) (λ totals. given y) ≡ given x → TakenChain (tasksOf s) (chainOf s) × (y ≡ x)
 figure-given s room y e =
     let g = after-given (responsesOf s room) (λ totals. given y) e in
-    (filled-taken s room (g .1), cc (g .2))
+    (filled-chain s room (g .1), cc (g .2))
 
-pub worst-given : (s : Sheet) (room : ℕ) {figure : Figure} → worstOf s room ≡ given figure → Taken s × (figureOf (tasksOf s) (chainOf s) ≡ figure)
+pub worst-given : (s : Sheet) (room : ℕ) {figure : Figure} → worstOf s room ≡ given figure → TakenChain (tasksOf s) (chainOf s) × (figureOf (tasksOf s) (chainOf s) ≡ figure)
 unfolding worstOf
 worst-given s room e = figure-given s room (figureOf (tasksOf s) (chainOf s)) e
 
-pub bound-given : (s : Sheet) (room : ℕ) {ticks : ℕ} → boundOf s room ≡ given ticks → Taken s × (quickBound (tasksOf s) (chainOf s) ≡ ticks)
+pub bound-given : (s : Sheet) (room : ℕ) {ticks : ℕ} → boundOf s room ≡ given ticks → TakenChain (tasksOf s) (chainOf s) × (quickBound (tasksOf s) (chainOf s) ≡ ticks)
 unfolding boundOf
 bound-given s room e = figure-given s room (quickBound (tasksOf s) (chainOf s)) e
 
-pub delay-given : (s : Sheet) (at room : ℕ) {ticks : ℕ} → delayOf s at room ≡ given ticks → Taken s × (delayAt (tasksOf s) (chainOf s) at ≡ ticks)
+pub delay-given : (s : Sheet) (at room : ℕ) {ticks : ℕ} → delayOf s at room ≡ given ticks → TakenChain (tasksOf s) (chainOf s) × (delayAt (tasksOf s) (chainOf s) at ≡ ticks)
 unfolding delayOf
 delay-given s at room e =
     let judged = after-given (sizesOf s) _ e in
@@ -71,31 +89,26 @@ margin-given s limit room e =
 
 -- ---- the largest figure
 
-module _ {s : Sheet} (taken : Taken s) where
-  task-small : (i : ℕ) → i < length (tasksOf s) → Small (tasksOf s) (response (tasksOf s)) i
+module _ {ts : List Task} {chain : List ℕ} (taken : TakenChain ts chain) where
+  task-small : (i : ℕ) → i < length ts → Small ts (response ts) i
   task-small i l = record {
-    period-positive = period-positive (taken .sound) i l;
-    period-most = period-most (taken .sound) i l;
-    response-most = λ k. le-trans (response-period (taken .accepted) i l k) (period-most (taken .sound) i l);
+    period-positive = taken .tasks .accepted .proper .period-positive i l;
+    period-most = taken .tasks .period-most i l;
+    response-most = λ k. le-trans (response-period (taken .tasks .accepted) i l k) (taken .tasks .period-most i l);
   }
 
-  rest-few : length (restOf (chainOf s)) ≤ 15
-  rest-few = omega (arith, length-drop 1 (chainOf s), length-take (s .length) (s .chain), taken .sound .length-most, taken .sound .count-most)
-
   -- Sixteen tasks: fifteen hand-overs and the last response.
-  pub worst-most : worst (tasksOf s) (response (tasksOf s)) (firstOf (chainOf s)) (restOf (chainOf s)) ≤ mostFigure
+  pub worst-most : figureOf ts chain .ticks ≤ mostFigure
   unfolding worst
   worst-most = maximum-least (jobs ts p) (λ k. delay ts (response ts) p rest (release ts p k)) mostFigure (λ k l. omega (
     arith,
-    rest-few,
-    delay-most ts (response ts) p rest (release ts p k) (along-chain (Small ts (response ts)) ts task-small p rest (chain-known (taken .sound))),
+    length-drop 1 chain,
+    taken .few,
+    delay-most ts (response ts) p rest (release ts p k) (along-chain (Small ts (response ts)) ts task-small p rest (taken .known)),
   ))
     where
-      ts : List Task
-      ts = tasksOf s
-
       p : ℕ
-      p = firstOf (chainOf s)
+      p = firstOf chain
 
       rest : List ℕ
-      rest = restOf (chainOf s)
+      rest = restOf chain

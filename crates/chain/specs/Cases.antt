@@ -13,54 +13,38 @@ use Rattle.sheet.specs.declared.Sheet.{Sheet}
 use Rattle.answers.specs.declared.Refusal.{Refusal}
 use Rattle.answers.specs.Answers.{Answer, given, refused, after, numberIn, refusal}
 use Rattle.answers.specs.NumberLaws.{Numbered, given-numbered, numbered-wider, when-numbered, after-numbered, also-numbered}
-use Rattle.sheet.specs.Sound.{judged-sound}
+use Rattle.sheet.specs.Tasks.{tasksOf, chainOf, firstOf}
 use Rattle.schedule.specs.declared.answer.Totals.{Totals}
 use Rattle.schedule.specs.declared.answer.Size.{Size}
-use Rattle.schedule.specs.Answer.{tasksOf, sizesOf, responsesOf, tableAfter}
+use Rattle.schedule.specs.Answer.{sizesOf, responsesOf, tableAfter}
 use Rattle.schedule.specs.Cases.{sizes-numbered, responses-numbered}
-use Rattle.schedule.specs.Results.{responses-given}
+use Rattle.schedule.specs.Promises.{AnswersAs}
 use Rattle.chain.specs.declared.answer.Figure.{Figure}
-use Rattle.chain.specs.Answer.{chainOf, firstOf, delayAt, figureOf, quickBound, less, noRelease, summaryOf, mostLimit, delayOf, worstOf, boundOf, marginOf, figuresOf, leaves}
-use Rattle.chain.specs.Steps.{Taken}
-
--- ---- the sheet and the table behind a filled answer
-
-pub filled-taken : (s : Sheet) (room : ℕ) {totals : Totals} → responsesOf s room ≡ given totals → Taken s
-filled-taken s room e =
-    let g = responses-given s room e in
-    record { sound = judged-sound s (g .judged-fine); accepted = g .accepted; short = g .hyperperiod-most; few = g .jobs-most }
+use Rattle.chain.specs.Answer.{delayAt, figureOf, quickBound, less, noRelease, summaryOf, mostLimit, delayOf, worstOf, boundOf, marginOf, figuresOf}
 
 -- ---- how a call ends
 
--- The answer is as defined, and the table is left so.
-abbrev pub Ended : {A : Type 0} → Answer A → List Task → List ℕ → Answer A → List ℕ → Type 0
-Ended definition ts old answer table = (answer ≡ definition) × (table ≡ leaves definition ts old)
-
-pub table-leaves : (answer : Answer Totals) (ts : List Task) (old : List ℕ) → tableAfter answer ts old ≡ leaves answer ts old
-table-leaves (given totals) ts old = refl
-table-leaves (refused number values) ts old = refl
-
-module _ {A B : Type 0} (ts : List Task) (old : List ℕ) {source : Answer A} (next : A → Answer B) where
+module _ {A B : Type 0} (s : Sheet) (old : List ℕ) {source : Answer A} (next : A → Answer B) where
   -- "a refusal met on the way is handed up unchanged"
-  pub ended-no : (r : Refusal) {table : List ℕ} → source ≡ refusal r → table ≡ leaves source ts old
-      → Ended (after source next) ts old (refusal r) table
-  ended-no r e t =
+  pub answers-no : (r : Refusal) {table : List ℕ} → source ≡ refusal r → table ≡ tableAfter source (tasksOf s) old
+      → AnswersAs (after source next) s old (refusal r) table
+  answers-no r e t =
       let d : after source next ≡ refusal r = ap (λ a. after a next) e in
-      (sym d, t ∙ ap (λ a. leaves a ts old) e ∙ ap (λ a. leaves a ts old) (sym d))
+      (sym d, t ∙ ap (λ a. tableAfter a (tasksOf s) old) e ∙ ap (λ a. tableAfter a (tasksOf s) old) (sym d))
 
-  pub ended-given : {a : A} {b : B} {table : List ℕ} → source ≡ given a → next a ≡ given b
-      → table ≡ leaves source ts old → Ended (after source next) ts old (given b) table
-  ended-given {b = b} e q t =
+  pub answers-given : {a : A} {b : B} {table : List ℕ} → source ≡ given a → next a ≡ given b
+      → table ≡ tableAfter source (tasksOf s) old → AnswersAs (after source next) s old (given b) table
+  answers-given {b = b} e q t =
       let d : after source next ≡ given b = ap (λ x. after x next) e ∙ q in
-      (sym d, t ∙ ap (λ x. leaves x ts old) e ∙ ap (λ x. leaves x ts old) (sym d))
+      (sym d, t ∙ ap (λ x. tableAfter x (tasksOf s) old) e ∙ ap (λ x. tableAfter x (tasksOf s) old) (sym d))
 
 -- A refusal of H and J leaves the table untouched,
-pub sizes-untouched : (s : Sheet) (old : List ℕ) (r : Refusal) → sizesOf s ≡ refusal r → old ≡ leaves (sizesOf s) (tasksOf s) old
+pub sizes-untouched : (s : Sheet) (old : List ℕ) (r : Refusal) → sizesOf s ≡ refusal r → old ≡ tableAfter (sizesOf s) (tasksOf s) old
 sizes-untouched s old r e = let l : numberIn r ≤ 11 = sizes-numbered s .most e in rw (e, ne-eqb (numberIn r) 15 (λ z. omega arith))
 
 -- and so does 12 or 13.
-pub ended-number : {A : Type 0} {definition : Answer A} (n : ℕ) (ts : List Task) (old : List ℕ) → n ≤ 14 → definition ≡ refused n [] → Ended definition ts old (refused n []) old
-ended-number n ts old l e = (sym e, rw (e, ne-eqb n 15 (λ z. omega arith)))
+pub answers-number : {A : Type 0} {definition : Answer A} (n : ℕ) (s : Sheet) (old : List ℕ) → n ≤ 14 → definition ≡ refused n [] → AnswersAs definition s old (refused n []) old
+answers-number n s old l e = (sym e, rw (e, ne-eqb n 15 (λ z. omega arith)))
 
 -- ---- 12 and 13
 

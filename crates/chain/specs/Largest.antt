@@ -10,7 +10,7 @@ use Rattle.arith.specs.WholeLaws.{gcd-divides-right, gcd-pos, up-near}
 use Rattle.theory.specs.declared.Task.{Task}
 use Rattle.theory.specs.Model.Schedule.{period}
 use Rattle.theory.specs.Model.Chain.{Chain, outranks, Table, nextRelease, delay, common, bound}
-use Rattle.chain.specs.Answer.{firstOf, restOf}
+use Rattle.sheet.specs.Tasks.{firstOf, restOf}
 use Rattle.chain.specs.Steps.{mostPeriod, mostWait}
 
 -- ---- what holds of every task on a chain

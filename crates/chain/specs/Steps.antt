@@ -10,18 +10,17 @@ use Rattle.bits.specs.Bits.{listOf}
 use Rattle.theory.specs.declared.Task.{Task}
 use Rattle.arith.specs.Ranges.{sum, maximum, least}
 use Rattle.theory.specs.Model.Schedule.{period, release, rank}
-use Rattle.theory.specs.Model.Responses.{hyperperiod, jobs, allJobs, Accepted}
-use Rattle.theory.specs.Model.Chain.{outranks, Table, nextRelease, delay, common}
-use Rattle.sheet.specs.declared.Sheet.{Sheet}
+use Rattle.theory.specs.Model.Responses.{jobs}
+use Rattle.theory.specs.Model.Chain.{Chain, outranks, Table, nextRelease, delay, common}
 use Rattle.answers.specs.declared.Refusal.{Refusal}
 use Rattle.answers.specs.declared.Refusal.the-variants.{Number}
-use Rattle.sheet.specs.Sound.{Sound}
-use Rattle.schedule.specs.Answer.{mostTicks, mostJobs, tasksOf, rows}
+use Rattle.sheet.specs.Tasks.{firstOf, restOf}
+use Rattle.schedule.specs.Answer.{mostJobs, rows}
+use Rattle.schedule.specs.Results.{Taken}
 use Rattle.chain.specs.declared.answer.Figure.{Figure}
 use Rattle.chain.specs.declared.answer.Worst.{Worst}
 use Rattle.chain.specs.declared.answer.Worst.the-variants.{Is, No as NoWorst}
 use Rattle.chain.specs.declared.answer.HandOver.{HandOver}
-use Rattle.chain.specs.Answer.{firstOf, restOf}
 
 -- ---- the largest figures
 
@@ -39,14 +38,13 @@ mostFigure = 3100000
 abbrev pub mostRelease : ℕ
 mostRelease = 4000000
 
--- ---- a sheet that is answered
+-- ---- a chain that is answered
 
--- It is judged fine, within the limits, and no task is late.
-pub record Taken (s : Sheet) : Type 0 where
-  pub sound : Sound s
-  pub accepted : Accepted (tasksOf s)
-  pub short : hyperperiod (tasksOf s) ≤ mostTicks
-  pub few : allJobs (tasksOf s) ≤ mostJobs
+-- A chain of tasks that are taken, no longer than a sheet's.
+pub record TakenChain (ts : List Task) (chain : List ℕ) : Type 0 where
+  pub tasks : Taken ts
+  pub known : Chain ts (firstOf chain) (restOf chain)
+  pub few : length chain ≤ 16
 
 -- ---- what the walk reads: by task, the period, the rank, where its row starts and how many jobs it has
 

@@ -12,8 +12,8 @@ use Rattle.theory.specs.Model.Schedule.{period, release}
 use borrow.Author.Tests.{eq-eqb, ne-eqb}
 use Rattle.theory.specs.Model.Chain.{Table, nextRelease, delay, bound}
 use Rattle.theory.specs.Analysis.ChainLaws.{next-later}
+use Rattle.sheet.specs.Tasks.{firstOf, restOf}
 use Rattle.chain.specs.declared.answer.HandOver.{HandOver}
-use Rattle.chain.specs.Answer.{firstOf, restOf}
 use Rattle.chain.specs.Steps.{mostWait, tasksIn, rowsIn, greatestIn, delayIn, pairBound, onward, ahead, HandedOver, Opened, Entry, Path}
 use Rattle.chain.specs.ReadLaws.{period-in, row-most, greatest-most}
 use Rattle.chain.specs.Largest.{along-entries, Small, SmallTask, next-most, delay-most, bound-most}

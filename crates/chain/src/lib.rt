@@ -23,10 +23,13 @@ ghost use Rattle.theory.specs.Model.Responses.{hyperperiod, jobs};
 ghost use Rattle.theory.specs.Model.Schedule.{period, release};
 ghost use Rattle.theory.specs.Model.Chain.{bound};
 ghost use Rattle.sheet.specs.Sound.{Sound};
-ghost use Rattle.schedule.specs.Answer.{mostTicks, tasksOf, responsesOf, greatestAfter};
-ghost use Rattle.chain.specs.Answer.{chainOf, firstOf, restOf, delayAt, figureOf, quickBound, less, mostLimit, delayOf, worstOf, boundOf, marginOf, defaultMarginOf, figuresOf, leaves, toldDelay, toldWorst, toldBound, toldMargin, toldFigures};
+ghost use Rattle.sheet.specs.Tasks.{tasksOf, chainOf, firstOf, restOf};
+ghost use Rattle.schedule.specs.Answer.{mostTicks};
+ghost use Rattle.chain.specs.Answer.{delayAt, figureOf, quickBound, less, mostLimit};
+ghost use Rattle.chain.specs.Promises.{DelayPromise, WorstPromise, BoundPromise, MarginPromise, DefaultMarginPromise, FiguresPromise};
+ghost use Rattle.schedule.specs.Results.{Taken};
 ghost use Rattle.schedule.specs.Steps.{Holds};
-ghost use Rattle.chain.specs.Steps.{mostWait, mostFigure, mostRelease, Taken, tasksIn, rowsIn, greatestIn, delayIn, onward, ahead, HandedOver, Opened, Row, Entry, Path, Greatest, pairBound, Gathered, worstRefusal};
+ghost use Rattle.chain.specs.Steps.{mostWait, mostFigure, mostRelease, tasksIn, rowsIn, greatestIn, delayIn, onward, ahead, HandedOver, Opened, Row, Entry, Path, Greatest, pairBound, Gathered, worstRefusal};
 
 // "margin limit 0 to 4,000,000"
 const MOST_LIMIT: u32 = 4000000;
@@ -42,10 +45,10 @@ fn gather(
     starts: &mut [u32; 16],
     counts: &mut [u32; 16],
 )
-    requires { ⌜ Taken s ⌝ }
+    requires { ⌜ Sound s × Taken (tasksOf s) ⌝ }
     requires { ⌜ h ≡ hyperperiod (tasksOf s) ⌝ }
     requires { ⌜ (length (now periods) ≡ 16) × (length (now ranks) ≡ 16) × (length (now starts) ≡ 16) × (length (now counts) ≡ 16) ⌝ }
-    ensures { λ _. ⌜ Gathered (tasksOf s) (s .count) (now (periods .exit)) (now (ranks .exit)) (now (starts .exit)) (now (counts .exit)) ⌝ }
+    ensures { λ _. ⌜ Gathered (tasksOf s) (length (tasksOf s)) (now (periods .exit)) (now (ranks .exit)) (now (starts .exit)) (now (counts .exit)) ⌝ }
 {
     let n = s.count as usize;
     let mut from = 0u32;
@@ -261,7 +264,7 @@ fn bound_along(
 
 // The delay of the sheet's chain at job k of its first task.
 fn delay_in(s: Sheet, h: u32, k: u32, table: &[u32]) -> u32
-    requires { ⌜ Taken s ⌝ }
+    requires { ⌜ Sound s × Taken (tasksOf s) ⌝ }
     requires { ⌜ h ≡ hyperperiod (tasksOf s) ⌝ }
     requires { ⌜ Holds (tasksOf s) (now table) ⌝ }
     requires { ⌜ k < jobs (tasksOf s) (firstOf (chainOf s)) ⌝ }
@@ -279,7 +282,7 @@ fn delay_in(s: Sheet, h: u32, k: u32, table: &[u32]) -> u32
 
 // The worst figure of the sheet's chain.
 fn worst_in(s: Sheet, h: u32, table: &[u32]) -> Figure
-    requires { ⌜ Taken s ⌝ }
+    requires { ⌜ Sound s × Taken (tasksOf s) ⌝ }
     requires { ⌜ h ≡ hyperperiod (tasksOf s) ⌝ }
     requires { ⌜ Holds (tasksOf s) (now table) ⌝ }
     ensures { λ r. ⌜ r ≡ figureOf (tasksOf s) (chainOf s) ⌝ }
@@ -296,7 +299,7 @@ fn worst_in(s: Sheet, h: u32, table: &[u32]) -> Figure
 
 // The quick bound of the sheet's chain.
 fn bound_in(s: Sheet, h: u32, table: &[u32]) -> u32
-    requires { ⌜ Taken s ⌝ }
+    requires { ⌜ Sound s × Taken (tasksOf s) ⌝ }
     requires { ⌜ h ≡ hyperperiod (tasksOf s) ⌝ }
     requires { ⌜ Holds (tasksOf s) (now table) ⌝ }
     ensures { λ r. ⌜ r ≡ quickBound (tasksOf s) (chainOf s) ⌝ }
@@ -341,8 +344,7 @@ fn worst_refusal(w: Worst) -> Refusal
 
 // The delay of the sheet's chain at a release of its first task.
 pub fn delay(s: Sheet, release: u32, table: &mut [u32]) -> Delay
-    ensures { λ r. ⌜ toldDelay r ≡ delayOf s release (length (now (table .entry))) ⌝ }
-    ensures { λ _. ⌜ now (table .exit) ≡ leaves (delayOf s release (length (now (table .entry)))) (tasksOf s) (now (table .entry)) ⌝ }
+    ensures { λ r. ⌜ DelayPromise s release (now (table .entry)) r (now (table .exit)) ⌝ }
 {
     let z = schedule::sizes(s);
     let Sizes::Of(size) = z else {
@@ -364,8 +366,7 @@ pub fn delay(s: Sheet, release: u32, table: &mut [u32]) -> Delay
 
 // The greatest delay of the sheet's chain, and the smallest release that gives it.
 pub fn worst(s: Sheet, table: &mut [u32]) -> Worst
-    ensures { λ r. ⌜ toldWorst r ≡ worstOf s (length (now (table .entry))) ⌝ }
-    ensures { λ _. ⌜ now (table .exit) ≡ leaves (worstOf s (length (now (table .entry)))) (tasksOf s) (now (table .entry)) ⌝ }
+    ensures { λ r. ⌜ WorstPromise s (now (table .entry)) r (now (table .exit)) ⌝ }
 {
     let filled = schedule::responses(s, &mut *table);
     let Responses::Table(totals) = filled else {
@@ -376,8 +377,7 @@ pub fn worst(s: Sheet, table: &mut [u32]) -> Worst
 
 // The quick bound of the sheet's chain.
 pub fn bound(s: Sheet, table: &mut [u32]) -> Bound
-    ensures { λ r. ⌜ toldBound r ≡ boundOf s (length (now (table .entry))) ⌝ }
-    ensures { λ _. ⌜ now (table .exit) ≡ leaves (boundOf s (length (now (table .entry)))) (tasksOf s) (now (table .entry)) ⌝ }
+    ensures { λ r. ⌜ BoundPromise s (now (table .entry)) r (now (table .exit)) ⌝ }
 {
     let filled = schedule::responses(s, &mut *table);
     let Responses::Table(totals) = filled else {
@@ -388,8 +388,7 @@ pub fn bound(s: Sheet, table: &mut [u32]) -> Bound
 
 // A limit less the worst figure: "the sign tells whether the limit is kept".
 pub fn margin(s: Sheet, limit: u32, table: &mut [u32]) -> Margin
-    ensures { λ r. ⌜ toldMargin r ≡ marginOf s limit (length (now (table .entry))) ⌝ }
-    ensures { λ _. ⌜ now (table .exit) ≡ leaves (marginOf s limit (length (now (table .entry)))) (tasksOf s) (now (table .entry)) ⌝ }
+    ensures { λ r. ⌜ MarginPromise s limit (now (table .entry)) r (now (table .exit)) ⌝ }
 {
     if MOST_LIMIT < limit {
         let z = schedule::sizes(s);
@@ -407,8 +406,7 @@ pub fn margin(s: Sheet, limit: u32, table: &mut [u32]) -> Margin
 
 // "The call without a limit uses 1,000 ticks."
 pub fn default_margin(s: Sheet, table: &mut [u32]) -> Margin
-    ensures { λ r. ⌜ toldMargin r ≡ defaultMarginOf s (length (now (table .entry))) ⌝ }
-    ensures { λ _. ⌜ now (table .exit) ≡ leaves (defaultMarginOf s (length (now (table .entry)))) (tasksOf s) (now (table .entry)) ⌝ }
+    ensures { λ r. ⌜ DefaultMarginPromise s (now (table .entry)) r (now (table .exit)) ⌝ }
 {
     margin(s, DEFAULT_LIMIT, &mut *table)
 }
@@ -416,9 +414,7 @@ pub fn default_margin(s: Sheet, table: &mut [u32]) -> Margin
 // What a report says, from one filling of the table, with "R, the greatest response" of each task in its place; zeros where it is
 // refused.
 pub fn figures(s: Sheet, table: &mut [u32]) -> TaskFigures
-    ensures { λ r. ⌜ toldFigures (r .answer) ≡ figuresOf s (length (now (table .entry))) ⌝ }
-    ensures { λ _. ⌜ now (table .exit) ≡ leaves (figuresOf s (length (now (table .entry)))) (tasksOf s) (now (table .entry)) ⌝ }
-    ensures { λ r. ⌜ r .greatest ≡ greatestAfter (responsesOf s (length (now (table .entry)))) s ⌝ }
+    ensures { λ r. ⌜ FiguresPromise s (now (table .entry)) r (now (table .exit)) ⌝ }
 {
     let filled = schedule::task_responses(s, &mut *table);
     let answer = filled.answer;

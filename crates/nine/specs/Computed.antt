@@ -23,11 +23,11 @@ use Rattle.sheet.specs.declared.Sheet.{Sheet}
 use Rattle.answers.specs.Answers.{Answer, given, refused, Judgement, fine, when, after, also}
 use Rattle.sheet.specs.Calls.{judgeOf}
 use Rattle.sheet.specs.Sound.{judged-sound}
-use Rattle.schedule.specs.Answer.{tasksOf, mostTicks, mostJobs, lateTask, lateGreatest, lateness, sizesOf, responsesOf, rows}
+use Rattle.sheet.specs.Tasks.{tasksOf, chainOf, firstOf, restOf}
+use Rattle.sheet.specs.TaskLaws.{sound-proper, chain-known}
+use Rattle.schedule.specs.Answer.{mostTicks, mostJobs, lateTask, lateGreatest, lateness, sizesOf, responsesOf, rows}
 use Rattle.schedule.specs.Lateness.{job-late, late-job}
-use Rattle.schedule.specs.Cases.{sound-proper}
-use Rattle.chain.specs.Answer.{chainOf, firstOf, restOf, figureOf, quickBound, worstOf, boundOf}
-use Rattle.chain.specs.SheetLaws.{chain-known}
+use Rattle.chain.specs.Answer.{figureOf, quickBound, worstOf, boundOf}
 use Rattle.nine.specs.Outcome.{Figures, outcomeOf}
 
 -- ---- by clearing times

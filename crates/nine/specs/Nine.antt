@@ -16,7 +16,7 @@ use Rattle.sheet.specs.declared.Sheet.{Sheet}
 use Rattle.answers.specs.Answers.{Answer, given, refused, first}
 use Rattle.sheet.specs.Fields.{taskFields, entryFields, among}
 use Rattle.sheet.specs.Calls.{places, judgeOf}
-use Rattle.schedule.specs.Answer.{tasksOf}
+use Rattle.sheet.specs.Tasks.{tasksOf}
 use Rattle.nine.specs.Outcome.{Figures, outcomeOf}
 use Rattle.nine.specs.Computed.{rowsBy, computedOf, outcome-computed}
 

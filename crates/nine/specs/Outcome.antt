@@ -4,7 +4,8 @@ use Prim.Native.Nat.{ℕ}
 use lib.ListN.{length}
 use Rattle.sheet.specs.declared.Sheet.{Sheet}
 use Rattle.answers.specs.Answers.{Answer, given, after}
-use Rattle.schedule.specs.Answer.{tasksOf, mostJobs, responsesOf, rows}
+use Rattle.sheet.specs.Tasks.{tasksOf}
+use Rattle.schedule.specs.Answer.{mostJobs, responsesOf, rows}
 use Rattle.chain.specs.Answer.{worstOf, boundOf}
 
 pub record Figures : Type 0 where

@@ -3,7 +3,7 @@ use mathlib.Core.List.{List, [], _∷_, _++_}
 use mathlib.Core.Bool.{Bool, cond}
 use Prim.Native.Nat.{ℕ, zero, suc}
 use lib.Dec.{ltb, eqb}
-use lib.ListN.{length, take, drop, replicate}
+use lib.ListN.{length, drop, replicate}
 use Rattle.bits.specs.Bits.{listOf}
 use Rattle.theory.specs.declared.Task.{Task}
 use Rattle.arith.specs.Ranges.{least}
@@ -11,18 +11,17 @@ use Rattle.theory.specs.Model.Schedule.{rank, need, release, Slot, idle, busy, 
 use Rattle.theory.specs.Model.Greatest.{greatest}
 use Rattle.theory.specs.Model.Responses.{full, fullBudget, response, hyperperiod, jobs, allJobs, idleTicks, taskResponse}
 use Rattle.sheet.specs.declared.Sheet.{Sheet}
+use Rattle.answers.specs.declared.Refusal.{Refusal}
+use Rattle.answers.specs.declared.Refusal.the-variants.{Number}
 use Rattle.answers.specs.Answers.{Answer, given, refused, Judgement, fine, when, after, also, refusal}
 use Rattle.sheet.specs.Calls.{places, judgeOf}
+use Rattle.sheet.specs.Tasks.{tasksOf}
 use Rattle.schedule.specs.declared.answer.Totals.{Totals}
 use Rattle.schedule.specs.declared.answer.Responses.{Responses}
 use Rattle.schedule.specs.declared.answer.Responses.the-variants.{Table, No}
 use Rattle.schedule.specs.declared.answer.Size.{Size}
 use Rattle.schedule.specs.declared.answer.Sizes.{Sizes}
 use Rattle.schedule.specs.declared.answer.Sizes.the-variants.{Of, No as NoSize}
-
--- The tasks on a sheet are in the first `count` of its sixteen places.
-unfoldable pub tasksOf : Sheet → List Task
-tasksOf s = take (s .count) (s .tasks)
 
 -- Whether job k of task i is "unfinished at its task's next release" "in the full-budget schedule".
 abbrev pub late : List Task → ℕ → ℕ → Bool
@@ -74,8 +73,8 @@ rows ts zero = []
 rows ts (suc n) = rows ts n ++ row ts n
 
 -- "Entries from J on are not touched." "Numbers 1 to 14 leave lent memory untouched. Number 15 leaves zeros in the first J entries."
-abbrev pub tableAfter : Answer Totals → List Task → List ℕ → List ℕ
-tableAfter (given totals) ts old = rows ts (length ts) ++ drop (allJobs ts) old
+abbrev pub tableAfter : {A : Type 0} → Answer A → List Task → List ℕ → List ℕ
+tableAfter (given x) ts old = rows ts (length ts) ++ drop (allJobs ts) old
 tableAfter (refused number values) ts old = cond (eqb number 15) (replicate (allJobs ts) 0 ++ drop (allJobs ts) old) old
 
 -- "R, the greatest response" of each task of the sheet, in its place; zeros with a refusal.
@@ -91,3 +90,12 @@ toldTotals (No r) = refusal r
 abbrev pub toldSize : Sizes → Answer Size
 toldSize (Of size) = given size
 toldSize (NoSize r) = refusal r
+
+-- The refusal in an answer. Number 0, which no refusal has, stands for none.
+abbrev pub sizesRefusal : Sizes → Refusal
+sizesRefusal (Of size) = Number 0
+sizesRefusal (NoSize r) = r
+
+abbrev pub responsesRefusal : Responses → Refusal
+responsesRefusal (Table totals) = Number 0
+responsesRefusal (No r) = r

@@ -1,13 +1,12 @@
 -- The answer of `responses`, case by case: what each is given for, and what is known where it is given.
-use mathlib.Core.Path.{_≡_, sym, ap, _∙_, subst}
+use mathlib.Core.Path.{_≡_}
 use mathlib.Core.List.{[], _∷_}
 use Prim.Native.Nat.{ℕ, _≤_, _<_}
 use native.Mathlib.Omega.{arith}
 use lib.Dec.{ltb}
-use lib.ListN.{length, getD, length-take}
-use lib.Seq.{getD-take}
+use lib.ListN.{length}
 use borrow.Author.Tests.{ltb-false, lt-ltb, le-ltb}
-use Rattle.theory.specs.Model.Schedule.{none, Proper, Slot, idle, busy}
+use Rattle.theory.specs.Model.Schedule.{Slot, idle, busy}
 use Rattle.theory.specs.Model.Responses.{hyperperiod, allJobs, idleTicks}
 use Rattle.sheet.specs.declared.Sheet.{Sheet}
 use Rattle.answers.specs.declared.Refusal.{Refusal}
@@ -16,9 +15,9 @@ use Rattle.answers.specs.AnswerLaws.{when-fine, also-given}
 use Rattle.answers.specs.NumberLaws.{Numbered, given-numbered, refused-numbered, numbered-wider, when-numbered, after-numbered, also-numbered}
 use Rattle.sheet.specs.Calls.{judgeOf}
 use Rattle.sheet.specs.NumberLaws.{judge-numbered}
-use Rattle.sheet.specs.Sound.{Sound}
+use Rattle.sheet.specs.Tasks.{tasksOf}
 use Rattle.schedule.specs.declared.answer.Size.{Size}
-use Rattle.schedule.specs.Answer.{mostTicks, mostJobs, tasksOf, lateGreatest, lateness, sizesOf, responsesOf}
+use Rattle.schedule.specs.Answer.{mostTicks, mostJobs, lateGreatest, lateness, sizesOf, responsesOf}
 
 -- The numbers of refusal
 
@@ -82,21 +81,6 @@ sizes-given s e =
       jobs-are = cc (z .1);
       jobs-most = ltb-false mostJobs (allJobs (tasksOf s)) (when-fine _ 11 (z .0));
     }
-
--- The tasks of a sheet that is judged fine are proper.
-pub sound-proper : {s : Sheet} → Sound s → Proper (tasksOf s)
-unfolding tasksOf
-sound-proper {s} ok = record {
-  period-positive = λ i l. subst (λ x. 0 < x .period) (sym (at i l)) (ok .period-least i (placed i l));
-  budget-positive = λ i l. subst (λ x. 0 < x .budget) (sym (at i l)) (ok .budget-least i (placed i l));
-  ranks-differ = λ i j l m e. ok .ranks-differ i j (placed i l) (placed j m) (ap (λ x. x .rank) (sym (at i l)) ∙ e ∙ ap (λ x. x .rank) (at j m));
-}
-  where
-    placed : (i : ℕ) → i < length (tasksOf s) → i < s .count
-    placed i l = omega (arith, length-take (s .count) (s .tasks))
-
-    at : (i : ℕ) → i < length (tasksOf s) → getD (tasksOf s) i none ≡ getD (s .tasks) i none
-    at i l = getD-take (s .count) (s .tasks) i none (placed i l)
 
 -- The whole answer
 

@@ -1,5 +1,6 @@
--- The reader's part: what the call answers and leaves.
+-- The reader's part: what the calls answer and leave, and what each promises.
 pub mod Answer
+pub mod Promises
 -- The results: refusal 15 exactly when, the entries of the table, the ticks that add up, and one answer for each input.
 pub mod Lateness
 pub mod Cases

@@ -17,9 +17,11 @@ use Rattle.answers.specs.Answers.{Answer, given, refused, fine, when, after, al
 use Rattle.answers.specs.AnswerLaws.{when-fine, also-given}
 use Rattle.sheet.specs.Calls.{judgeOf}
 use Rattle.sheet.specs.Sound.{judged-sound}
+use Rattle.sheet.specs.Tasks.{tasksOf}
+use Rattle.sheet.specs.TaskLaws.{tasks-length, task-allowed, sound-proper}
 use Rattle.schedule.specs.declared.answer.Totals.{Totals}
 use Rattle.schedule.specs.declared.answer.Size.{Size}
-use Rattle.schedule.specs.Answer.{mostTicks, mostJobs, tasksOf, lateGreatest, lateness, sizesOf, responsesOf}
+use Rattle.schedule.specs.Answer.{mostTicks, mostJobs, lateGreatest, lateness, sizesOf, responsesOf}
 use Rattle.schedule.specs.Lateness.{GreatestLate, idle-accepted, busy-greatest, accepted-idle, greatest-busy}
 use Rattle.bits.specs.Lists.{length-listOf, getD-listOf}
 use Rattle.arith.specs.Ranges.{sum}
@@ -29,7 +31,7 @@ use Rattle.theory.specs.Model.Responses.{fullBudget, response, jobs}
 use Rattle.theory.specs.Analysis.Idle.{runs-exactly, idle-adds-up}
 use Rattle.schedule.specs.Answer.{row, rows, tableAfter}
 use Rattle.schedule.specs.Steps.{Holds}
-use Rattle.schedule.specs.Cases.{sizes-numbered, sizes-fit, Sized, sizes-given, sound-proper, responses-late, responses-full}
+use Rattle.schedule.specs.Cases.{sizes-numbered, sizes-fit, Sized, sizes-given, responses-late, responses-full}
 
 -- When each answer is given
 
@@ -131,6 +133,26 @@ module _ (s : Sheet) (room : ℕ) where
   late-responses f =
       responses-late s room (sizes-fit s (f .judged-fine) (f .hyperperiod-most) (f .jobs-most)) (f .jobs-fit)
       (greatest-busy (sound-proper (judged-sound s (f .judged-fine))) (f .greatest-late))
+
+-- Tasks that are taken: as many as a sheet has and allowed, with H and J within their limits, and none late.
+pub record Taken (ts : List Task) : Type 0 where
+  pub count-most : length ts ≤ 16
+  pub period-most : (i : ℕ) → i < length ts → period ts i ≤ 100000
+  pub accepted : Accepted ts
+  pub short : hyperperiod ts ≤ mostTicks
+  pub few : allJobs ts ≤ mostJobs
+
+pub given-taken : (s : Sheet) (room : ℕ) {totals : Totals} → responsesOf s room ≡ given totals → Taken (tasksOf s)
+given-taken s room e =
+    let g = responses-given s room e in
+    let sound = judged-sound s (g .judged-fine) in
+    record {
+      count-most = omega (arith, tasks-length sound, sound .count-most);
+      period-most = λ i l. task-allowed sound i l .period-most;
+      accepted = g .accepted;
+      short = g .hyperperiod-most;
+      few = g .jobs-most;
+    }
 
 -- The entries of the table
 

@@ -16,37 +16,20 @@ use Rattle.theory.specs.Analysis.Finish.{FirstZero}
 use Rattle.sheet.specs.declared.Sheet.{Sheet}
 use Rattle.answers.specs.declared.Refusal.{Refusal}
 use Rattle.answers.specs.declared.Refusal.the-variants.{Number, With}
-use Rattle.sheet.specs.Sound.{Sound}
-use Rattle.schedule.specs.declared.answer.Responses.{Responses}
-use Rattle.schedule.specs.declared.answer.Responses.the-variants.{Table, No as NoTable}
-use Rattle.schedule.specs.declared.answer.Sizes.{Sizes}
-use Rattle.schedule.specs.declared.answer.Sizes.the-variants.{Of, No}
+use Rattle.sheet.specs.Tasks.{tasksOf}
 use Rattle.schedule.specs.declared.answer.Turn.{Turn}
 use Rattle.schedule.specs.declared.answer.Row.{Row}
 use Rattle.schedule.specs.declared.answer.Row.the-variants.{Rests, Late as LateRow}
 use Rattle.schedule.specs.declared.answer.Found.{Found}
 use Rattle.schedule.specs.declared.answer.Found.the-variants.{Lowest, Late as LateFound}
-use Rattle.schedule.specs.Answer.{mostTicks, tasksOf, lateTask, lateGreatest, row, rows}
-
--- A sheet that is judged fine, in its sixteen places.
-pub record Taken (s : Sheet) : Type 0 where
-  pub sound : Sound s
-  pub whole : length (s .tasks) ≡ 16
+use Rattle.schedule.specs.Answer.{mostTicks, lateTask, lateGreatest, row, rows}
 
 -- h is the hyperperiod, within document 01's limit.
 pub record Period (s : Sheet) (h : ℕ) : Type 0 where
   pub is-hyperperiod : h ≡ hyperperiod (tasksOf s)
   pub within-limit : h ≤ mostTicks
 
--- The refusal that an answer holds.
-abbrev pub sizesRefusal : Sizes → Refusal
-sizesRefusal (Of size) = Number 0
-sizesRefusal (No r) = r
-
-abbrev pub responsesRefusal : Responses → Refusal
-responsesRefusal (Table totals) = Number 0
-responsesRefusal (NoTable r) = r
-
+-- The refusal of a sheet with a late task.
 abbrev pub lateOf : Found → Refusal
 lateOf (Lowest low rests) = Number 0
 lateOf (LateFound i) = With 15 i

@@ -24,9 +24,11 @@ ghost use lib.ListN.{length, drop, replicate};
 ghost use Rattle.arith.specs.Limit.{told, within};
 ghost use Rattle.theory.specs.Model.Responses.{hyperperiod, jobs, allJobs, taskResponse};
 ghost use Rattle.sheet.specs.Calls.{places};
-ghost use Rattle.answers.specs.Answers.{refusalIn};
-ghost use Rattle.schedule.specs.Answer.{mostTicks, tasksOf, sizesOf, responsesOf, tableAfter, greatestAfter, toldSize, toldTotals};
-ghost use Rattle.schedule.specs.Steps.{Taken, Period, Holds, sizesRefusal, responsesRefusal, lateOf, coming, PlaceOf, Level, Ready, Turned, Walk, Walked, Places, RowFilled, Noted, FoundTo, Filled};
+ghost use Rattle.sheet.specs.Sound.{Sound};
+ghost use Rattle.sheet.specs.Tasks.{tasksOf};
+ghost use Rattle.schedule.specs.Answer.{mostTicks};
+ghost use Rattle.schedule.specs.Promises.{SizesPromise, SizesRefusalPromise, ResponsesPromise, ResponsesRefusalPromise, TaskResponsesPromise};
+ghost use Rattle.schedule.specs.Steps.{Period, Holds, lateOf, coming, PlaceOf, Level, Ready, Turned, Walk, Walked, Places, RowFilled, Noted, FoundTo, Filled};
 
 // "H at most 1,000,000; J at most 8,192"
 const MOST_TICKS: u32 = 1000000;
@@ -35,7 +37,7 @@ const MOST_JOBS: u32 = 8192;
 
 // The hyperperiod: the least common multiple of all periods, or that it is over its limit.
 fn hyperperiod(s: Sheet) -> Multiple
-    requires { ⌜ Taken s ⌝ }
+    requires { ⌜ Sound s ⌝ }
     ensures { λ r. ⌜ told r ≡ within mostTicks (hyperperiod (tasksOf s)) ⌝ }
 {
     let mut multiple = 1u32;
@@ -53,7 +55,7 @@ fn hyperperiod(s: Sheet) -> Multiple
 
 // The jobs of all tasks before tick h, the hyperperiod.
 fn job_count(s: Sheet, h: u32) -> u32
-    requires { ⌜ Taken s ⌝ ∗ ⌜ Period s h ⌝ }
+    requires { ⌜ Sound s ⌝ ∗ ⌜ Period s h ⌝ }
     ensures { λ r. ⌜ r ≡ allJobs (tasksOf s) ⌝ }
 {
     let n = s.count as usize;
@@ -68,7 +70,7 @@ fn job_count(s: Sheet, h: u32) -> u32
 
 // H and J, for a sheet that is judged fine and keeps their limits.
 pub fn sizes(s: Sheet) -> Sizes
-    ensures { λ r. ⌜ toldSize r ≡ sizesOf s ⌝ }
+    ensures { λ r. ⌜ SizesPromise s r ⌝ }
 {
     let v = sheet::judge(s);
     let Verdict::Fine = v else {
@@ -106,7 +108,7 @@ fn place_of(periods: &[u32; 16], size: usize, period: u32) -> usize
 // The periods of the tasks that outrank task i, how many they are, and the budgets of each. Tasks of one period are released
 // together, so they take one place.
 fn gather(s: Sheet, i: usize, periods: &mut [u32; 16], budgets: &mut [u32; 16]) -> usize
-    requires { ⌜ Taken s ⌝ ∗ ⌜ (i < s .count) × (length (now periods) ≡ 16) × (length (now budgets) ≡ 16) ⌝ }
+    requires { ⌜ Sound s ⌝ ∗ ⌜ (i < s .count) × (length (now periods) ≡ 16) × (length (now budgets) ≡ 16) ⌝ }
     ensures { λ r. ⌜ Level (tasksOf s) i (now (periods .exit)) (now (budgets .exit)) r ⌝ }
 {
     let n = s.count as usize;
@@ -214,7 +216,7 @@ fn walk(
 
 // Fills the row of task i, from the numbers of its level.
 fn fill_row(s: Sheet, i: usize, h: u32, row: &mut [u32]) -> Row
-    requires { ⌜ Taken s ⌝ ∗ ⌜ Period s h ⌝ ∗ ⌜ (i < s .count) × (length (now row) ≡ jobs (tasksOf s) i) ⌝ }
+    requires { ⌜ Sound s ⌝ ∗ ⌜ Period s h ⌝ ∗ ⌜ (i < s .count) × (length (now row) ≡ jobs (tasksOf s) i) ⌝ }
     ensures { λ r. ⌜ RowFilled (tasksOf s) i (now (row .exit)) r ⌝ }
 {
     let mut periods = [0u32; 16];
@@ -225,7 +227,7 @@ fn fill_row(s: Sheet, i: usize, h: u32, row: &mut [u32]) -> Row
 
 // What the rows tell up to that of task i, from what those before it and its own tell.
 fn noted(s: Sheet, found: Found, i: usize, row: Row) -> Found
-    requires { ⌜ Taken s ⌝ ∗ ⌜ i < s .count ⌝ ∗ ⌜ FoundTo (tasksOf s) i found ⌝ ∗ ⌜ Noted (tasksOf s) i row ⌝ }
+    requires { ⌜ Sound s ⌝ ∗ ⌜ i < s .count ⌝ ∗ ⌜ FoundTo (tasksOf s) i found ⌝ ∗ ⌜ Noted (tasksOf s) i row ⌝ }
     ensures { λ r. ⌜ FoundTo (tasksOf s) (suc i) r ⌝ }
 {
     let index = i as u8;
@@ -255,7 +257,7 @@ fn noted(s: Sheet, found: Found, i: usize, row: Row) -> Found
 
 // Fills the table row by row, each in its own part of the table.
 fn fill_rows(s: Sheet, h: u32, table: &mut [u32]) -> Found
-    requires { ⌜ Taken s ⌝ ∗ ⌜ Period s h ⌝ ∗ ⌜ allJobs (tasksOf s) ≤ length (now table) ⌝ }
+    requires { ⌜ Sound s ⌝ ∗ ⌜ Period s h ⌝ ∗ ⌜ allJobs (tasksOf s) ≤ length (now table) ⌝ }
     ensures { λ r. ⌜ Filled (tasksOf s) (s .count) (allJobs (tasksOf s)) (now (table .entry)) (now (table .exit)) r ⌝ }
 {
     let n = s.count as usize;
@@ -286,7 +288,7 @@ fn clear(table: &mut [u32], n: usize)
 
 // The refusal in an answer that gives no sizes. Number 0, which no refusal has, stands for none.
 pub fn sizes_refusal(z: Sizes) -> Refusal
-    ensures { λ r. ⌜ r ≡ sizesRefusal z ⌝ }
+    ensures { λ r. ⌜ SizesRefusalPromise z r ⌝ }
 {
     let Sizes::No(r) = z else {
         return Refusal::Number(0);
@@ -312,8 +314,7 @@ fn found_refusal(f: Found) -> Refusal
 
 // The response of each job before H, "task by task in sheet order, each task's jobs in release order", with H, J and the idle ticks.
 pub fn responses(s: Sheet, table: &mut [u32]) -> Responses
-    ensures { λ r. ⌜ toldTotals r ≡ responsesOf s (length (now (table .entry))) ⌝ }
-    ensures { λ r. ⌜ now (table .exit) ≡ tableAfter (responsesOf s (length (now (table .entry)))) (tasksOf s) (now (table .entry)) ⌝ }
+    ensures { λ r. ⌜ ResponsesPromise s (now (table .entry)) r (now (table .exit)) ⌝ }
 {
     let z = sizes(s);
     let Sizes::Of(size) = z else {
@@ -337,7 +338,7 @@ pub fn responses(s: Sheet, table: &mut [u32]) -> Responses
 
 // The refusal in an answer that gives no table; number 0 for none.
 pub fn responses_refusal(a: Responses) -> Refusal
-    ensures { λ r. ⌜ r ≡ responsesRefusal a ⌝ }
+    ensures { λ r. ⌜ ResponsesRefusalPromise a r ⌝ }
 {
     let Responses::No(r) = a else {
         return Refusal::Number(0);
@@ -347,7 +348,7 @@ pub fn responses_refusal(a: Responses) -> Refusal
 
 // R of each task, in sixteen places, from the rows of a table.
 fn greatest_each(s: Sheet, h: u32, table: &[u32]) -> [u32; 16]
-    requires { ⌜ Taken s ⌝ ∗ ⌜ Period s h ⌝ ∗ ⌜ Holds (tasksOf s) (now table) ⌝ }
+    requires { ⌜ Sound s ⌝ ∗ ⌜ Period s h ⌝ ∗ ⌜ Holds (tasksOf s) (now table) ⌝ }
     ensures { λ r. ⌜ r ≡ places 0 (s .count) (taskResponse (tasksOf s)) ⌝ }
 {
     let n = s.count as usize;
@@ -365,9 +366,7 @@ fn greatest_each(s: Sheet, h: u32, table: &[u32]) -> [u32; 16]
 
 // The job table as `responses` answers and leaves it, with "R, the greatest response" of each task in its place; zeros where it is refused.
 pub fn task_responses(s: Sheet, table: &mut [u32]) -> TaskResponses
-    ensures { λ r. ⌜ toldTotals (r .answer) ≡ responsesOf s (length (now (table .entry))) ⌝ }
-    ensures { λ r. ⌜ now (table .exit) ≡ tableAfter (responsesOf s (length (now (table .entry)))) (tasksOf s) (now (table .entry)) ⌝ }
-    ensures { λ r. ⌜ r .greatest ≡ greatestAfter (responsesOf s (length (now (table .entry)))) s ⌝ }
+    ensures { λ r. ⌜ TaskResponsesPromise s (now (table .entry)) r (now (table .exit)) ⌝ }
 {
     let answer = responses(s, &mut *table);
     let Responses::Table(totals) = answer else {

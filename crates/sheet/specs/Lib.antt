@@ -3,6 +3,7 @@ pub mod Fields
 pub mod Calls
 pub mod Told
 pub mod Promises
+pub mod Tasks
 -- The laws of the fields and of the calls.
 pub mod Steps
 pub mod FieldLaws
@@ -14,6 +15,7 @@ pub mod FormatLaws
 pub mod RoomLaws
 pub mod Sound
 pub mod EncodedLaws
+pub mod TaskLaws
 -- The results: round trips, long inputs, and one answer for each input.
 pub mod RoundTrip
 pub mod Front

@@ -9,7 +9,7 @@ use borrow.Fn.PlainCycle.{Measures, is, falls, and}
 use borrow.Author.Needs.{needs}
 use Rattle.theory.specs.declared.Task.{Task}
 use Rattle.theory.specs.Model.Chain.{bound}
-use Rattle.chain.specs.Answer.{firstOf, restOf}
+use Rattle.sheet.specs.Tasks.{firstOf, restOf}
 use Rattle.chain.specs.Steps.{mostWait, tasksIn, greatestIn, Path}
 use Rattle.chain.specs.Largest.{pair-most}
 use Rattle.chain.specs.WalkLaws.{part-from, bound-one, bound-more, entry-small-task, path-rest, path-bound}

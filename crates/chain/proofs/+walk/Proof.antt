@@ -11,7 +11,7 @@ use borrow.Author.Needs.{needs}
 use Rattle.theory.specs.declared.Task.{Task}
 use Rattle.theory.specs.Model.Schedule.{release}
 use Rattle.theory.specs.Model.Chain.{Table, delay}
-use Rattle.chain.specs.Answer.{firstOf, restOf}
+use Rattle.sheet.specs.Tasks.{firstOf, restOf}
 use Rattle.chain.specs.Steps.{mostWait, tasksIn, rowsIn, Path}
 use Rattle.chain.specs.Largest.{next-most}
 use Rattle.chain.specs.WalkLaws.{part-from, delay-one, delay-more, entry-small, path-rest, path-delay}

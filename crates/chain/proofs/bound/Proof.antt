@@ -3,12 +3,10 @@ use mathlib.Core.Path.{_≡_, sym, ap, _∙_}
 use lib.ListN.{length}
 use borrow.Author.Needs.{needs}
 use Rattle.answers.specs.Answers.{given, refusal}
-use Rattle.schedule.specs.Answer.{tasksOf, responsesOf, toldTotals}
-use Rattle.schedule.specs.Results.{responses-given}
+use Rattle.schedule.specs.Answer.{responsesOf, toldTotals, responsesRefusal}
 use Rattle.chain.specs.Answer.{boundOf}
-use Rattle.schedule.specs.Steps.{responsesRefusal}
-use Rattle.chain.specs.Cases.{filled-taken, table-leaves, ended-no, ended-given}
-use Rattle.schedule.specs.Results.{filled-holds}
+use Rattle.chain.specs.Cases.{answers-no, answers-given}
+use Rattle.chain.specs.Answered.{filled-ready}
 use Rattle.chain.proofs.bound.Statement.{statement}
 use Rattle.chain.proofs.bound.Tie as tie
 
@@ -37,17 +35,14 @@ returns c =
     let a = c .before .before .before .before .before .before .before .before .args in
     let r = c .before .before .before .before .before .responses in
     let no = c .before .enum-told .given .1 in
-    ended-no (tasksOf (a .s)) (a .table .now) _ (c .responses-refusal .result)
+    answers-no (a .s) (a .table .now) _ (c .responses-refusal .result)
     (sym (r .ensures .0) ∙ ap toldTotals no ∙ ap refusal (sym (c .responses-refusal .ensures ∙ ap responsesRefusal no)))
-    (r .ensures .1 ∙ table-leaves (responsesOf (a .s) (length (a .table .now))) (tasksOf (a .s)) (a .table .now))
+    (r .ensures .1)
 
 bound-in-requires : tie.Need-bound-in-requires
 bound-in-requires c κs =
     let a = c .before .before .before .before .before .before .before .before .before .args in
-    let f = filled (c .before .before) in (
-      filled-taken (a .s) (length (a .table .now)) f,
-      (responses-given (a .s) (length (a .table .now)) f .hyperperiod-is, filled-holds (a .s) (a .table .now) f (c .before .before .before .before .before .before .responses .ensures .1)),
-    )
+    filled-ready (a .s) (a .table .now) (filled (c .before .before)) (c .before .before .before .before .before .before .responses .ensures .1)
 
 same-length-2 : tie.Need-same-length-2
 same-length-2 c = search needs
@@ -57,8 +52,8 @@ unfolding boundOf
 returns-2 c =
     let a = c .before .before .before .before .before .before .before .before .before .before .args in
     let r = c .before .before .before .before .before .before .before .responses in
-    ended-given (tasksOf (a .s)) (a .table .now) _ (filled (c .before .before .before)) (ap given (sym (c .bound-in .ensures)))
-    (r .ensures .1 ∙ table-leaves (responsesOf (a .s) (length (a .table .now))) (tasksOf (a .s)) (a .table .now))
+    answers-given (a .s) (a .table .now) _ (filled (c .before .before .before)) (ap given (sym (c .bound-in .ensures)))
+    (r .ensures .1)
 
 pub bound-spec : {M : Type 1} → statement M
 bound-spec =

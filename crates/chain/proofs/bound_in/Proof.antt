@@ -3,9 +3,11 @@ use mathlib.Core.Path.{_≡_, sym, _∙_}
 use native.Mathlib.Omega.{arith}
 use lib.ListN.{length, length-map}
 use borrow.Author.Needs.{needs}
-use Rattle.chain.specs.Answer.{chainOf}
-use Rattle.chain.specs.SheetLaws.{chain-length}
-use Rattle.chain.specs.PlanLaws.{plan-path, plan-bound}
+use Rattle.sheet.specs.Tasks.{tasksOf, chainOf}
+use Rattle.sheet.specs.TaskLaws.{chain-length}
+use Rattle.chain.specs.Steps.{TakenChain}
+use Rattle.chain.specs.Answered.{sheet-chain}
+use Rattle.chain.specs.ArrayLaws.{arrays-path, arrays-bound}
 use Rattle.chain.proofs.bound_in.Statement.{statement}
 use Rattle.chain.proofs.bound_in.Tie as tie
 
@@ -14,7 +16,10 @@ whole : (c : tie.Start) → length (c .args .s .chain) ≡ 16
 whole c = sym (length-map (c .args .s .chain) _) ∙ c .good .0 .1 .1 .1 .0 .1 .0 .1
 
 lent : (c : tie.Start) → length (chainOf (c .args .s)) ≡ c .args .s .length
-lent c = chain-length (c .pre .0 .sound) (whole c)
+lent c = chain-length (c .pre .0 .0) (whole c)
+
+taken : (c : tie.Start) → TakenChain (tasksOf (c .args .s)) (chainOf (c .args .s))
+taken c = sheet-chain (c .pre .0 .0) (c .pre .0 .1)
 
 gather-requires : tie.Need-gather-requires
 gather-requires c κs = search needs
@@ -25,7 +30,7 @@ cast-m c = search needs
 array-share-prefix-chain : tie.Need-array-share-prefix-chain
 array-share-prefix-chain c =
     let s = c .before .before .before .before .before .before .before .before in
-    omega (arith, whole s, s .pre .0 .sound .length-most, s .pre .0 .sound .count-most)
+    omega (arith, whole s, s .pre .0 .0 .length-most, s .pre .0 .0 .count-most)
 
 slice-aggregate-bound-along : tie.Need-slice-aggregate-bound-along
 slice-aggregate-bound-along c = sym (lent (c .before .before .before .before .before .before .before .before .before))
@@ -34,13 +39,13 @@ bound-along-requires : tie.Need-bound-along-requires
 bound-along-requires c κs =
     let s = c .before .before .before .before .before .before .before .before .before .before .before .before .before in
     let gathered = c .before .before .before .before .before .before .before .gather .ensures in
-    (plan-path (s .pre .0) (s .pre .1 .1) gathered (omega (arith, lent s, s .pre .0 .sound .length-least)), omega (arith, lent s, s .pre .0 .sound .length-most, s .pre .0 .sound .count-most))
+    (arrays-path (taken s) (s .pre .1 .1) gathered (omega (arith, lent s, s .pre .0 .0 .length-least)), omega (arith, lent s, s .pre .0 .0 .length-most, s .pre .0 .0 .count-most))
 
 returns : tie.Need-returns
 returns c =
     let s = c .before .before .before .before .before .before .before .before .before .before .before .before .before .before in
     let gathered = c .before .before .before .before .before .before .before .before .gather .ensures in
-    c .bound-along .ensures ∙ plan-bound (s .pre .0) (s .pre .1 .1) gathered
+    c .bound-along .ensures ∙ arrays-bound (taken s) (s .pre .1 .1) gathered
 
 pub bound-in-spec : {M : Type 1} → statement M
 bound-in-spec =

@@ -8,15 +8,15 @@ use Rattle.theory.specs.Model.Schedule.{period}
 use Rattle.theory.specs.Model.Responses.{hyperperiod}
 use Rattle.answers.specs.Answers.{given, after, refusal}
 use Rattle.sheet.specs.Sound.{Sound, judged-sound}
-use Rattle.schedule.specs.Answer.{tasksOf, sizesOf, responsesOf, toldSize, toldTotals}
+use Rattle.theory.specs.Analysis.ChainLaws.{chain-head}
+use Rattle.sheet.specs.TaskLaws.{chain-known}
+use Rattle.sheet.specs.Tasks.{tasksOf, chainOf, firstOf, restOf}
+use Rattle.schedule.specs.Answer.{sizesOf, responsesOf, toldSize, toldTotals, sizesRefusal, responsesRefusal}
 use Rattle.schedule.specs.Cases.{sizes-given}
-use Rattle.schedule.specs.Results.{responses-given}
-use Rattle.schedule.specs.Steps.{sizesRefusal}
-use Rattle.chain.specs.Answer.{chainOf, firstOf, delayAt, delayOf}
-use Rattle.schedule.specs.Steps.{responsesRefusal}
-use Rattle.chain.specs.SheetLaws.{job-early, job-release}
-use Rattle.chain.specs.Cases.{filled-taken, table-leaves, ended-no, ended-given, ended-number, sizes-untouched, delay-beyond, delay-between, delay-asked}
-use Rattle.schedule.specs.Results.{filled-holds}
+use Rattle.chain.specs.Answer.{delayAt, delayOf}
+use Rattle.chain.specs.Answered.{filled-ready}
+use Rattle.chain.specs.ReleaseLaws.{job-early, job-release}
+use Rattle.chain.specs.Cases.{answers-no, answers-given, answers-number, sizes-untouched, delay-beyond, delay-between, delay-asked}
 use Rattle.chain.proofs.delay.Statement.{statement}
 use Rattle.chain.proofs.delay.Tie as tie
 
@@ -62,13 +62,13 @@ returns c =
     let no = c .before .enum-told .given .1 in
     let e : sizesOf (a .s) ≡ refusal (c .sizes-refusal .result) =
     sym (c .before .before .before .sizes .ensures) ∙ ap toldSize no ∙ ap refusal (sym (c .sizes-refusal .ensures ∙ ap sizesRefusal no)) in
-    ended-no (tasksOf (a .s)) (a .table .now) _ (c .sizes-refusal .result) e (sizes-untouched (a .s) (a .table .now) (c .sizes-refusal .result) e)
+    answers-no (a .s) (a .table .now) _ (c .sizes-refusal .result) e (sizes-untouched (a .s) (a .table .now) (c .sizes-refusal .result) e)
 
 returns-2 : tie.Need-returns-2
 returns-2 c =
     let a = c .before .before .before .before .before .before .before .args in
     let f = fits (c .before .before .before) in
-    ended-number 12 (tasksOf (a .s)) (a .table .now) (omega arith)
+    answers-number 12 (a .s) (a .table .now) (omega arith)
     (delay-beyond (a .s) (length (a .table .now)) f (a .release) (omega (arith, c .if1 .taken, sizes-given _ f .hyperperiod-is)))
 
 first-period-requires : tie.Need-first-period-requires
@@ -80,7 +80,7 @@ rem-if2 c = c .first-period .ensures .1
 returns-3 : tie.Need-returns-3
 returns-3 c =
     let a = c .before .before .before .before .before .before .before .before .before .args in
-    ended-number 12 (tasksOf (a .s)) (a .table .now) (omega arith)
+    answers-number 12 (a .s) (a .table .now) (omega arith)
     (delay-between (a .s) (length (a .table .now)) (fits (c .before .before .before .before .before)) (a .release) (early (c .before .before)) (rw (← c .before .first-period .ensures .0) (c .if2 .taken)))
 
 responses-requires : tie.Need-responses-requires
@@ -104,9 +104,9 @@ returns-4 c =
     let r = c .before .before .before .before .before .responses in
     let no = c .before .enum-told2 .given .1 in
     rw (asked (c .before .before .before .before .before .before .before))
-    (ended-no (tasksOf (a .s)) (a .table .now) _ (c .responses-refusal .result)
+    (answers-no (a .s) (a .table .now) _ (c .responses-refusal .result)
     (sym (r .ensures .0) ∙ ap toldTotals no ∙ ap refusal (sym (c .responses-refusal .ensures ∙ ap responsesRefusal no)))
-    (r .ensures .1 ∙ table-leaves (responsesOf (a .s) (length (a .table .now))) (tasksOf (a .s)) (a .table .now)))
+    (r .ensures .1))
 
 div-delay-in : tie.Need-div-delay-in
 div-delay-in c = c .before .before .before .before .before .before .before .before .first-period .ensures .1
@@ -114,14 +114,13 @@ div-delay-in c = c .before .before .before .before .before .before .before .befo
 delay-in-requires : tie.Need-delay-in-requires
 delay-in-requires c κs =
     let a = c .before .before .before .before .before .before .before .before .before .before .before .before .before .before .before .before .before .args in
-    let f = filled (c .before .before) in
-    let taken = filled-taken (a .s) (length (a .table .now)) f in (
-      taken,
+    let f = filled-ready (a .s) (a .table .now) (filled (c .before .before)) (c .before .before .before .before .before .before .responses .ensures .1) in (
+      f .0,
       (
-        responses-given (a .s) (length (a .table .now)) f .hyperperiod-is,
+        f .1 .0,
         (
-          filled-holds (a .s) (a .table .now) f (c .before .before .before .before .before .before .responses .ensures .1),
-          rw (c .before .before .before .before .before .before .before .before .before .first-period .ensures .0) (job-early (taken .sound) (taken .accepted .proper) (a .release) (early (c .before .before .before .before .before .before .before .before .before .before))),
+          f .1 .1,
+          rw (c .before .before .before .before .before .before .before .before .before .first-period .ensures .0) (job-early (f .0 .1 .accepted .proper) (firstOf (chainOf (a .s))) (chain-head (tasksOf (a .s)) (firstOf (chainOf (a .s))) (restOf (chainOf (a .s))) (chain-known (f .0 .0))) (a .release) (early (c .before .before .before .before .before .before .before .before .before .before))),
         ),
       ),
     )
@@ -136,8 +135,8 @@ returns-5 c =
     let job : a .release / c .before .before .before .before .before .before .before .before .before .before .first-period .result * period (tasksOf (a .s)) (firstOf (chainOf (a .s))) ≡ a .release =
     rw (c .before .before .before .before .before .before .before .before .before .before .first-period .ensures .0) (job-release (tasksOf (a .s)) (firstOf (chainOf (a .s))) (a .release) (whole (c .before .before .before .before .before .before .before .before .before))) in
     rw (asked (c .before .before .before .before .before .before .before .before .before))
-    (ended-given (tasksOf (a .s)) (a .table .now) _ (filled (c .before .before .before)) (ap given (sym (c .delay-in .ensures ∙ ap (delayAt (tasksOf (a .s)) (chainOf (a .s))) job)))
-    (r .ensures .1 ∙ table-leaves (responsesOf (a .s) (length (a .table .now))) (tasksOf (a .s)) (a .table .now)))
+    (answers-given (a .s) (a .table .now) _ (filled (c .before .before .before)) (ap given (sym (c .delay-in .ensures ∙ ap (delayAt (tasksOf (a .s)) (chainOf (a .s))) job)))
+    (r .ensures .1))
 
 pub delay-spec : {M : Type 1} → statement M
 delay-spec =

@@ -5,9 +5,9 @@ use native.Mathlib.Omega.{arith}
 use lib.ListN.{getD}
 use lib.Seq.{getD-take}
 use Rattle.theory.specs.Model.Schedule.{period}
-use Rattle.schedule.specs.Answer.{tasksOf}
-use Rattle.chain.specs.SheetLaws.{period-at}
 use borrow.Author.Needs.{needs}
+use Rattle.sheet.specs.Tasks.{tasksOf}
+use Rattle.sheet.specs.TaskLaws.{period-at}
 use Rattle.chain.proofs.first_period.Statement.{statement}
 use Rattle.chain.proofs.first_period.Tie as tie
 

@@ -1,13 +1,15 @@
 -- Place by place the arrays hold one task more, and its row starts after the rows before it.
-use mathlib.Core.Path.{_≡_, refl, ap₂, subst}
+use mathlib.Core.Path.{_≡_, refl, sym, ap₂, subst}
 use Prim.Native.Nat.{_+_, _-_, _≤_, _<_}
 use native.Mathlib.Numerals.{add-one}
 use native.Mathlib.Omega.{arith}
+use lib.ListN.{length}
 use Rattle.arith.specs.Ranges.{sum}
 use Rattle.theory.specs.Model.Responses.{jobs}
-use Rattle.schedule.specs.Answer.{tasksOf}
+use Rattle.sheet.specs.Tasks.{tasksOf}
+use Rattle.sheet.specs.TaskLaws.{tasks-length, jobs-at}
 use Rattle.chain.specs.Steps.{Gathered}
-use Rattle.chain.specs.GatherLaws.{gathered-none, gathered-more, jobs-at, row-few}
+use Rattle.chain.specs.GatherLaws.{gathered-none, gathered-more, row-few}
 use borrow.Author.Needs.{needs}
 use Rattle.chain.proofs.gather.Statement.{statement}
 use Rattle.chain.proofs.gather.Tie as tie
@@ -33,7 +35,7 @@ element-copy-out-t : tie.Need-element-copy-out-t Inv-loop μ-loop
 element-copy-out-t c = search needs
 
 div-jobs : tie.Need-div-jobs Inv-loop μ-loop
-div-jobs c = let s = c .before .before .before .before in s .pre .0 .sound .period-least (c .before .before .before .loop .i) (omega arith)
+div-jobs c = let s = c .before .before .before .before in s .pre .0 .0 .period-least (c .before .before .before .loop .i) (omega arith)
 
 mul-periods : tie.Need-mul-periods Inv-loop μ-loop
 mul-periods c = search needs
@@ -61,7 +63,7 @@ add-from c =
     let s = c .before .before .before .before in
     let l = c .before .before .before .loop in
     let known : l .i < s .args .t1 .count = omega arith in
-    omega (arith, l .inv .1, jobs-at (s .pre .0) (l .i) known (s .pre .1 .0), row-few (s .pre .0) (l .i) known)
+    omega (arith, l .inv .1, jobs-at (s .pre .0 .0) (s .pre .1 .0) (l .i) known, row-few (s .pre .0 .1) (l .i) (omega (arith, tasks-length (s .pre .0 .0))))
 
 add-i : tie.Need-add-i Inv-loop μ-loop
 add-i c = search needs
@@ -75,13 +77,14 @@ loop-again c =
     let s = c .before .before .before .before in
     let l = c .before .before .before .loop in
     let known : l .i < s .args .t1 .count = omega arith in
-    let count = jobs-at (s .pre .0) (l .i) known (s .pre .1 .0) in
-    (omega arith, rw add-one (ap₂ _+_ (l .inv .1) count), gathered-more (s .pre .0) (l .i) known (l .from) _ (l .inv .2) (l .inv .1) count)
+    let count = sym (jobs-at (s .pre .0 .0) (s .pre .1 .0) (l .i) known) in
+    (omega arith, rw add-one (ap₂ _+_ (l .inv .1) count), gathered-more (s .pre .0 .0) (l .i) known (l .from) _ (l .inv .2) (l .inv .1) count)
 
 returns : tie.Need-returns Inv-loop μ-loop
 returns c =
+    let s = c .before .before in
     let l = c .before .loop in
-    subst (λ n. Gathered (tasksOf (c .before .before .args .t1)) n (l .periods) (l .ranks) (l .starts) (l .counts)) {x = l .i} {y = c .before .before .args .t1 .count} (omega arith) (l .inv .2)
+    subst (λ n. Gathered (tasksOf (s .args .t1)) n (l .periods) (l .ranks) (l .starts) (l .counts)) {x = l .i} {y = length (tasksOf (s .args .t1))} (omega (arith, tasks-length (s .pre .0 .0))) (l .inv .2)
 
 pub gather-spec : {M : Type 1} → statement M
 gather-spec =

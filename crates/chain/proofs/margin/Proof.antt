@@ -6,11 +6,10 @@ use mir.Syntax.{w32}
 use mir.ValLaws.{toZ-ofZ}
 use borrow.Author.Needs.{needs}
 use Rattle.answers.specs.Answers.{given, after, refusal}
-use Rattle.schedule.specs.Answer.{tasksOf, sizesOf, toldSize}
-use Rattle.schedule.specs.Steps.{sizesRefusal}
+use Rattle.schedule.specs.Answer.{sizesOf, toldSize, sizesRefusal}
 use Rattle.chain.specs.Answer.{less, worstOf, marginOf, toldWorst}
 use Rattle.chain.specs.Steps.{worstRefusal}
-use Rattle.chain.specs.Cases.{ended-no, ended-given, ended-number, sizes-untouched, margin-over, margin-asked}
+use Rattle.chain.specs.Cases.{answers-no, answers-given, answers-number, sizes-untouched, margin-over, margin-asked}
 use Rattle.chain.specs.Answered.{worst-given, worst-most}
 use Rattle.chain.proofs.margin.Statement.{statement}
 use Rattle.chain.proofs.margin.Tie as tie
@@ -46,12 +45,12 @@ returns c =
     let no = c .before .enum-told2 .given .1 in
     let e : sizesOf (a .s) ≡ refusal (c .sizes-refusal .result) =
     sym (c .before .before .before .sizes .ensures) ∙ ap toldSize no ∙ ap refusal (sym (c .sizes-refusal .ensures ∙ ap sizesRefusal no)) in
-    ended-no (tasksOf (a .s)) (a .table .now) _ (c .sizes-refusal .result) e (sizes-untouched (a .s) (a .table .now) (c .sizes-refusal .result) e)
+    answers-no (a .s) (a .table .now) _ (c .sizes-refusal .result) e (sizes-untouched (a .s) (a .table .now) (c .sizes-refusal .result) e)
 
 returns-2 : tie.Need-returns-2
 returns-2 c =
     let a = c .before .before .before .before .before .args in
-    ended-number 13 (tasksOf (a .s)) (a .table .now) (omega arith) (margin-over (a .s) (length (a .table .now)) (fits c) (a .limit) (c .before .before .before .if1 .taken))
+    answers-number 13 (a .s) (a .table .now) (omega arith) (margin-over (a .s) (length (a .table .now)) (fits c) (a .limit) (c .before .before .before .if1 .taken))
 
 worst-requires : tie.Need-worst-requires
 worst-requires c κs = search needs
@@ -74,7 +73,7 @@ returns-3 c =
     let w = c .before .before .before .before .before .worst in
     let no = c .before .enum-told3 .given .1 in
     rw (asked (c .before .before .before .before .before .before .before))
-    (ended-no (tasksOf (a .s)) (a .table .now) _ (c .worst-refusal .result)
+    (answers-no (a .s) (a .table .now) _ (c .worst-refusal .result)
     (sym (w .ensures .0) ∙ ap toldWorst no ∙ ap refusal (sym (c .worst-refusal .ensures ∙ ap worstRefusal no))) (w .ensures .1))
 
 less-of-requires : tie.Need-less-of-requires
@@ -91,7 +90,7 @@ returns-4 c =
     let a = c .before .before .before .before .before .before .before .before .before .before .args in
     let read = toZ-ofZ w32 (c .less-of .result) (record { sfits = c .less-of .ok }) in
     rw (asked (c .before .before .before .before .before .before .before .before), read)
-    (ended-given (tasksOf (a .s)) (a .table .now) _ (known (c .before .before)) (ap given (sym (c .less-of .ensures))) (c .before .before .before .before .before .before .worst .ensures .1))
+    (answers-given (a .s) (a .table .now) _ (known (c .before .before)) (ap given (sym (c .less-of .ensures))) (c .before .before .before .before .before .before .worst .ensures .1))
 
 pub margin-spec : {M : Type 1} → statement M
 margin-spec =

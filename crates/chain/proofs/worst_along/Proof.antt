@@ -8,8 +8,8 @@ use native.Mathlib.Omega.{arith}
 use lib.ListN.{length, getD, take, drop}
 use borrow.Author.Needs.{needs}
 use Rattle.theory.specs.Model.Schedule.{release}
+use Rattle.sheet.specs.Tasks.{firstOf}
 use Rattle.schedule.specs.Answer.{mostTicks}
-use Rattle.chain.specs.Answer.{firstOf}
 use Rattle.chain.specs.Steps.{mostWait, tasksIn, delayIn, ahead, Entry, Path}
 use Rattle.chain.specs.ReadLaws.{release-in}
 use Rattle.chain.specs.WalkLaws.{part-from, ahead-path, ahead-few, path-delay}

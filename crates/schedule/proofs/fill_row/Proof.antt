@@ -1,6 +1,6 @@
 -- The level that was gathered brings its load, so its walk tells the responses.
 use mathlib.Core.Path.{_∙_}
-use Rattle.schedule.proofs.Tasks.{task-at}
+use Rattle.sheet.specs.TaskLaws.{task-at}
 use Rattle.schedule.proofs.Backlogs.{coming-load, walkable, row-filled}
 use borrow.Author.Needs.{needs}
 use Rattle.schedule.proofs.fill_row.Statement.{statement}

@@ -1,6 +1,8 @@
 -- Row by row the part of the table that belongs to the task is lent to its walk, straight after the rows before it.
 use native.Mathlib.Nat.{div-le-self}
 use Rattle.theory.specs.Model.Greatest.{greatest}
+use Rattle.sheet.specs.Tasks.{tasksOf}
+use Rattle.sheet.specs.TaskLaws.{jobs-at}
 use Rattle.schedule.specs.Answer.{rows}
 use mathlib.Core.Path.{_≡_, refl, sym, ap, _∙_, subst}
 use Prim.Native.Nat.{_+_, _-_, _/_, _≤_, _<_}
@@ -10,9 +12,8 @@ use lib.ListN.{length, getD}
 use Rattle.theory.specs.Model.Schedule.{none}
 use Rattle.arith.specs.Ranges.{sum}
 use Rattle.theory.specs.Model.Responses.{jobs, allJobs}
-use Rattle.schedule.specs.Answer.{tasksOf}
 use Rattle.schedule.specs.Steps.{Filled}
-use Rattle.schedule.proofs.Tasks.{jobs-at, jobs-next, jobs-most, jobs-within, all-jobs}
+use Rattle.schedule.proofs.Tasks.{jobs-next, jobs-most, jobs-within, all-jobs}
 use Rattle.schedule.proofs.Entries.{part-length, row-more}
 use borrow.Author.Needs.{needs}
 use Rattle.schedule.proofs.fill_rows.Statement.{statement}
@@ -48,7 +49,7 @@ element-copy-out-end : tie.Need-element-copy-out-end Inv-loop μ-loop
 element-copy-out-end c = search needs
 
 div-end : tie.Need-div-end Inv-loop μ-loop
-div-end c = c .before .before .before .pre .0 .sound .period-least (c .before .loop .i) (omega arith)
+div-end c = c .before .before .before .pre .0 .period-least (c .before .loop .i) (omega arith)
 
 cast-end : tie.Need-cast-end Inv-loop μ-loop
 cast-end c =
@@ -59,13 +60,13 @@ add-end : tie.Need-add-end Inv-loop μ-loop
 add-end c =
     let a = c .before .before .before in
     let l = c .before .loop in
-    omega (arith, l .inv .1, jobs-next (a .pre .0) (a .args .h) (l .i) (a .pre .1 .0) (omega arith), jobs-most (a .pre .0) (a .args .h) (l .i + 1) (a .pre .1 .0) (omega arith), a .pre .0 .sound .count-most)
+    omega (arith, l .inv .1, jobs-next (a .pre .0) (a .args .h) (l .i) (a .pre .1 .0) (omega arith), jobs-most (a .pre .0) (a .args .h) (l .i + 1) (a .pre .1 .0) (omega arith), a .pre .0 .count-most)
 
 mul-fill-row : tie.Need-mul-fill-row Inv-loop μ-loop
 mul-fill-row c =
     let a = c .before .before .before in
     let l = c .before .loop in
-    omega (arith, l .inv .1, jobs-most (a .pre .0) (a .args .h) (l .i) (a .pre .1 .0) (l .inv .0), a .pre .0 .sound .count-most)
+    omega (arith, l .inv .1, jobs-most (a .pre .0) (a .args .h) (l .i) (a .pre .1 .0) (l .inv .0), a .pre .0 .count-most)
 
 sub-fill-row : tie.Need-sub-fill-row Inv-loop μ-loop
 sub-fill-row c = search needs
@@ -85,7 +86,7 @@ fill-row-requires c κs =
     let l = c .before .before .loop in
     let known : l .i < a .args .t1 .count = omega arith in
     let room : l .from + a .args .h / getD (a .args .t1 .tasks) (l .i) none .period ≤ length (l .table) = omega (arith, a .pre .1 .1, l .inv .1, l .inv .2 .same-length, jobs-within (a .pre .0) (a .args .h) (l .i) (a .pre .1 .0) known) in
-    (a .pre .0, (a .pre .1 .0, (known, part-length (l .from) _ (l .table) room ∙ sym (jobs-at (a .pre .0) (a .args .h) (l .i) (a .pre .1 .0) known))))
+    (a .pre .0, (a .pre .1 .0, (known, part-length (l .from) _ (l .table) room ∙ sym (jobs-at (a .pre .0) (a .pre .1 .0 .is-hyperperiod) (l .i) known))))
 
 noted-requires : tie.Need-noted-requires Inv-loop μ-loop
 noted-requires c κs =

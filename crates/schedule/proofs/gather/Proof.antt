@@ -3,7 +3,8 @@ use mathlib.Core.Path.{_≡_, subst}
 use mathlib.Core.Logic.{⊎-elim}
 use native.Mathlib.Omega.{arith}
 use Prim.Native.Nat.{_-_, _<_}
-use Rattle.schedule.proofs.Tasks.{GatheredTo, gather-start, gather-level, gather-in, gather-with, gather-out, place-fine}
+use Rattle.sheet.specs.TaskLaws.{place-allowed}
+use Rattle.schedule.proofs.Tasks.{GatheredTo, gather-start, gather-level, gather-in, gather-with, gather-out}
 use borrow.Author.Needs.{needs}
 use Rattle.schedule.proofs.gather.Statement.{statement}
 use Rattle.schedule.proofs.gather.Tie as tie
@@ -47,7 +48,7 @@ add-budgets c =
     let a = c .before .before .before .before .before .before .before .before .before .before in
     let l = c .before .before .before .before .before .before .before .before .before .loop in
     let known : l .j < a .args .t1 .count = omega arith in
-    omega (arith, l .inv .budgets-most (c .before .before .before .place-of .result) (c .before .before .if2 .taken), place-fine (a .pre .0) (l .j) known, a .pre .0 .sound .count-most)
+    omega (arith, l .inv .budgets-most (c .before .before .before .place-of .result) (c .before .before .if2 .taken), place-allowed (a .pre .0) (l .j) known, a .pre .0 .count-most)
 
 element-write-budgets : tie.Need-element-write-budgets Inv-loop μ-loop
 element-write-budgets c = search needs

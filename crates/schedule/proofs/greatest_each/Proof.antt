@@ -14,10 +14,11 @@ use Rattle.theory.specs.Model.Schedule.{none}
 use Rattle.theory.specs.Model.Responses.{response, jobs, taskResponse}
 use Rattle.sheet.specs.Calls.{places}
 use Rattle.sheet.specs.PlaceLaws.{places-set}
-use Rattle.schedule.specs.Answer.{tasksOf}
+use Rattle.sheet.specs.Tasks.{tasksOf}
+use Rattle.sheet.specs.TaskLaws.{jobs-at, tasks-length}
 use Rattle.schedule.specs.Steps.{Holds}
 use Rattle.schedule.proofs.Entries.{part-length}
-use Rattle.schedule.proofs.Tasks.{jobs-at, jobs-next, jobs-most, jobs-within, tasks-length}
+use Rattle.schedule.proofs.Tasks.{jobs-next, jobs-most, jobs-within}
 use borrow.Author.Needs.{needs}
 use Rattle.schedule.proofs.greatest_each.Statement.{statement}
 use Rattle.schedule.proofs.greatest_each.Tie as tie
@@ -49,10 +50,10 @@ mul-end : tie.Need-mul-end Inv-loop μ-loop
 mul-end c = search needs
 
 element-copy-out-end : tie.Need-element-copy-out-end Inv-loop μ-loop
-element-copy-out-end c = omega (arith, c .before .loop .inv .1, c .before .before .before .pre .0 .sound .count-most)
+element-copy-out-end c = omega (arith, c .before .loop .inv .1, c .before .before .before .pre .0 .count-most)
 
 div-end : tie.Need-div-end Inv-loop μ-loop
-div-end c = c .before .before .before .pre .0 .sound .period-least (c .before .loop .i) (omega (arith, c .before .loop .inv .1))
+div-end c = c .before .before .before .pre .0 .period-least (c .before .loop .i) (omega (arith, c .before .loop .inv .1))
 
 cast-end : tie.Need-cast-end Inv-loop μ-loop
 cast-end c =
@@ -63,13 +64,13 @@ add-end : tie.Need-add-end Inv-loop μ-loop
 add-end c =
     let a = c .before .before .before in
     let l = c .before .loop in
-    omega (arith, l .inv .2, jobs-next (a .pre .0) (a .args .h) (l .i) (a .pre .1 .0) (omega (arith, l .inv .1)), jobs-most (a .pre .0) (a .args .h) (l .i + 1) (a .pre .1 .0) (omega (arith, l .inv .1)), a .pre .0 .sound .count-most)
+    omega (arith, l .inv .2, jobs-next (a .pre .0) (a .args .h) (l .i) (a .pre .1 .0) (omega (arith, l .inv .1)), jobs-most (a .pre .0) (a .args .h) (l .i + 1) (a .pre .1 .0) (omega (arith, l .inv .1)), a .pre .0 .count-most)
 
 mul-greatest : tie.Need-mul-greatest Inv-loop μ-loop
 mul-greatest c =
     let a = c .before .before .before in
     let l = c .before .loop in
-    omega (arith, l .inv .2, jobs-most (a .pre .0) (a .args .h) (l .i) (a .pre .1 .0) (omega (arith, l .inv .0, l .inv .1)), a .pre .0 .sound .count-most)
+    omega (arith, l .inv .2, jobs-most (a .pre .0) (a .args .h) (l .i) (a .pre .1 .0) (omega (arith, l .inv .0, l .inv .1)), a .pre .0 .count-most)
 
 sub-greatest : tie.Need-sub-greatest Inv-loop μ-loop
 sub-greatest c = search needs
@@ -87,10 +88,10 @@ greatest-requires : tie.Need-greatest-requires Inv-loop μ-loop
 greatest-requires c κs = search needs
 
 mul-each : tie.Need-mul-each Inv-loop μ-loop
-mul-each c = omega (arith, c .before .before .before .loop .inv .1, c .before .before .before .before .before .pre .0 .sound .count-most)
+mul-each c = omega (arith, c .before .before .before .loop .inv .1, c .before .before .before .before .before .pre .0 .count-most)
 
 array-write-each : tie.Need-array-write-each Inv-loop μ-loop
-array-write-each c = omega (arith, c .before .before .before .loop .inv .1, c .before .before .before .before .before .pre .0 .sound .count-most)
+array-write-each c = omega (arith, c .before .before .before .loop .inv .1, c .before .before .before .before .before .pre .0 .count-most)
 
 add-i : tie.Need-add-i Inv-loop μ-loop
 add-i c = search needs
@@ -107,7 +108,7 @@ loop-again c =
       omega arith,
       l .inv .1,
       omega (arith, l .inv .2, jobs-next (a .pre .0) (a .args .h) (l .i) (a .pre .1 .0) known),
-      ap₂ (λ x y. set x (l .i) y) (l .inv .3) (c .greatest .ensures ∙ row-greatest ts (a .args .table .now) (a .pre .1 .1) (l .i) (l .from) _ (omega (arith, tasks-length (a .pre .0))) (l .inv .2) (jobs-at (a .pre .0) (a .args .h) (l .i) (a .pre .1 .0) known) (omega (arith, a .pre .1 .1 .enough, l .inv .2, jobs-within (a .pre .0) (a .args .h) (l .i) (a .pre .1 .0) known))) ∙ places-set 0 (taskResponse ts) (l .i) (omega (arith, a .pre .0 .sound .count-most)),
+      ap₂ (λ x y. set x (l .i) y) (l .inv .3) (c .greatest .ensures ∙ row-greatest ts (a .args .table .now) (a .pre .1 .1) (l .i) (l .from) _ (omega (arith, tasks-length (a .pre .0))) (l .inv .2) (jobs-at (a .pre .0) (a .pre .1 .0 .is-hyperperiod) (l .i) known) (omega (arith, a .pre .1 .1 .enough, l .inv .2, jobs-within (a .pre .0) (a .args .h) (l .i) (a .pre .1 .0) known))) ∙ places-set 0 (taskResponse ts) (l .i) (omega (arith, a .pre .0 .count-most)),
     )
 
 returns : tie.Need-returns Inv-loop μ-loop

@@ -6,7 +6,8 @@ use mathlib.Core.Path.{_≡_, sym, ap, _∙_}
 use Prim.Native.Nat.{_-_, _≤_}
 use lib.ListN.{drop}
 use Rattle.theory.specs.Model.Responses.{hyperperiod}
-use Rattle.schedule.specs.Answer.{mostTicks, tasksOf}
+use Rattle.sheet.specs.Tasks.{tasksOf}
+use Rattle.schedule.specs.Answer.{mostTicks}
 use Rattle.schedule.proofs.Tasks.{multiple-start, multiple-step, multiple-most}
 use borrow.Author.Needs.{needs}
 use Rattle.schedule.proofs.hyperperiod.Statement.{statement}

@@ -4,7 +4,7 @@ use mathlib.Core.Path.{_≡_, refl, sym, ap, _∙_}
 use Prim.Native.Nat.{_+_, _-_, _≤_}
 use Rattle.arith.specs.Ranges.{sum}
 use Rattle.theory.specs.Model.Responses.{jobs as jobsOf}
-use Rattle.schedule.specs.Answer.{tasksOf}
+use Rattle.sheet.specs.Tasks.{tasksOf}
 use Rattle.schedule.proofs.Tasks.{jobs-next, jobs-most, all-jobs}
 use borrow.Author.Needs.{needs}
 use Rattle.schedule.proofs.job_count.Statement.{statement}
@@ -31,13 +31,13 @@ element-copy-out-jobs : tie.Need-element-copy-out-jobs Inv-loop μ-loop
 element-copy-out-jobs c = search needs
 
 div-jobs : tie.Need-div-jobs Inv-loop μ-loop
-div-jobs c = c .before .before .pre .0 .sound .period-least (c .before .loop .i) (omega arith)
+div-jobs c = c .before .before .pre .0 .period-least (c .before .loop .i) (omega arith)
 
 add-jobs : tie.Need-add-jobs Inv-loop μ-loop
 add-jobs c =
     let a = c .before .before in
     let l = c .before .loop in
-    omega (arith, l .inv .1, jobs-next (a .pre .0) (a .args .h) (l .i) (a .pre .1) (omega arith), jobs-most (a .pre .0) (a .args .h) (l .i + 1) (a .pre .1) (omega arith), a .pre .0 .sound .count-most)
+    omega (arith, l .inv .1, jobs-next (a .pre .0) (a .args .h) (l .i) (a .pre .1) (omega arith), jobs-most (a .pre .0) (a .args .h) (l .i + 1) (a .pre .1) (omega arith), a .pre .0 .count-most)
 
 add-i : tie.Need-add-i Inv-loop μ-loop
 add-i c = search needs

@@ -2,7 +2,7 @@
 use mathlib.Core.Path.{sym, subst}
 use Prim.Native.Nat.{suc}
 use native.Mathlib.Omega.{arith}
-use Rattle.schedule.specs.Answer.{tasksOf}
+use Rattle.sheet.specs.Tasks.{tasksOf}
 use Rattle.schedule.specs.Steps.{Noted, FoundTo}
 use Rattle.schedule.proofs.Notes.{late-first, late-greater, late-kept, on-time-late, on-time-lowest, on-time-kept}
 use borrow.Author.Needs.{needs}
@@ -28,7 +28,7 @@ element-copy-out-if1 : tie.Need-element-copy-out-if1
 element-copy-out-if1 c =
     let a = c .before .before .before .before .before in
     let f = subst (FoundTo (tasksOf (a .args .t1)) (a .args .i)) (c .before .found .given .1) (a .pre .1 .1 .0) in
-    omega (arith, f .known, a .pre .0 .sound .count-most)
+    omega (arith, f .known, a .pre .0 .count-most)
 
 mul-if1-2 : tie.Need-mul-if1-2
 mul-if1-2 c = search needs
@@ -64,7 +64,7 @@ element-copy-out-if2-2 : tie.Need-element-copy-out-if2-2
 element-copy-out-if2-2 c =
     let a = c .before .before .before .before .before .before in
     let f = subst (FoundTo (tasksOf (a .args .t1)) (a .args .i)) (c .before .found2 .given .1) (a .pre .1 .1 .0) in
-    omega (arith, f .known, a .pre .0 .sound .count-most)
+    omega (arith, f .known, a .pre .0 .count-most)
 
 returns : tie.Need-returns
 returns c =

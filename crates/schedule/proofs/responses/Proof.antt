@@ -2,13 +2,13 @@
 use Rattle.theory.specs.Model.Responses.{allJobs}
 use mathlib.Core.Path.{_≡_, sym, ap, _∙_, subst}
 use native.Mathlib.Omega.{arith}
-use lib.ListN.{length-map}
 use Rattle.answers.specs.Answers.{given, refusal}
-use Rattle.sheet.specs.Sound.{judged-sound}
-use Rattle.schedule.specs.Answer.{tasksOf, sizesOf, toldSize}
+use Rattle.sheet.specs.Sound.{Sound, judged-sound}
+use Rattle.sheet.specs.Tasks.{tasksOf}
+use Rattle.schedule.specs.Answer.{sizesOf, toldSize, sizesRefusal}
 use Rattle.schedule.specs.Cases.{sizes-given}
-use Rattle.schedule.specs.Steps.{Taken, sizesRefusal, lateOf, Filled}
-use Rattle.schedule.proofs.Endings.{ended-refused, ended-small, ended-late, ended-full}
+use Rattle.schedule.specs.Steps.{lateOf, Filled}
+use Rattle.schedule.proofs.Endings.{answers-refused, answers-small, answers-late, answers-full}
 use borrow.Author.Needs.{needs}
 use Rattle.schedule.proofs.responses.Statement.{statement}
 use Rattle.schedule.proofs.responses.Tie as tie
@@ -17,10 +17,8 @@ use Rattle.schedule.proofs.responses.Tie as tie
 fits : (c : tie.After-z) → sizesOf (c .before .before .before .before .args .s) ≡ given (c .z .given .0 .0)
 fits c = sym (c .before .before .sizes .ensures) ∙ ap toldSize (c .z .given .1)
 
-taken : (c : tie.After-z) → Taken (c .before .before .before .before .args .s)
-taken c =
-    let s = c .before .before .before .before .args .s in
-    record { sound = judged-sound s (sizes-given s (fits c) .judged-fine); whole = sym (length-map (s .tasks) _) ∙ c .before .before .before .before .good .0 .1 .1 .0 .1 .0 .1 }
+sound : (c : tie.After-z) → Sound (c .before .before .before .before .args .s)
+sound c = let s = c .before .before .before .before .args .s in judged-sound s (sizes-given s (fits c) .judged-fine)
 
 sizes-requires : tie.Need-sizes-requires
 sizes-requires c κs = search needs
@@ -37,7 +35,7 @@ sizes-refusal-requires c κs = search needs
 returns : tie.Need-returns
 returns c =
     let no = c .before .enum-told .given .1 in
-    ended-refused (c .before .before .before .before .before .args .s) (c .before .before .before .before .before .args .table .now) (c .sizes-refusal .result)
+    answers-refused (c .before .before .before .before .before .args .s) (c .before .before .before .before .before .args .table .now) (c .sizes-refusal .result)
     (sym (c .before .before .before .sizes .ensures) ∙ ap toldSize no ∙ ap refusal (sym (c .sizes-refusal .ensures ∙ ap sizesRefusal no)))
 
 cast-jobs : tie.Need-cast-jobs
@@ -46,13 +44,13 @@ cast-jobs c = search needs
 returns-2 : tie.Need-returns-2
 returns-2 c =
     let z = c .before .before .before in
-    ended-small _ (c .before .before .before .before .before .before .before .args .table .now) (fits z) (c .if1 .taken)
+    answers-small _ (c .before .before .before .before .before .before .before .args .table .now) (fits z) (c .if1 .taken)
 
 fill-rows-requires : tie.Need-fill-rows-requires
 fill-rows-requires c κs =
     let z = c .before .before .before .before in
     let x = sizes-given _ (fits z) in
-    (taken z, (record { is-hyperperiod = x .hyperperiod-is; within-limit = omega (arith, x) }, omega (arith, x .jobs-are, c .before .if1 .left)))
+    (sound z, (record { is-hyperperiod = x .hyperperiod-is; within-limit = omega (arith, x) }, omega (arith, x .jobs-are, c .before .if1 .left)))
 
 enum-known-found : tie.Need-enum-known-found
 enum-known-found c = search needs
@@ -77,7 +75,7 @@ returns-3 c =
     let r = c .before .before .before .before .before .before .before .before .before .fill-rows in
     let late = c .before .before .before .before .before .enum-told2 .given .1 in
     rw (c .found-refusal .ensures ∙ ap lateOf late, c .before .before .before .clear .ensures)
-    (ended-late (a .args .s) (a .args .table .now) (fits z) (taken z) (c .before .before .before .before .before .before .before .before .before .before .before .if1 .left)
+    (answers-late (a .args .s) (a .args .table .now) (fits z) (sound z) (c .before .before .before .before .before .before .before .before .before .before .before .if1 .left)
     (subst (Filled (tasksOf (a .args .s)) (a .args .s .count) (allJobs (tasksOf (a .args .s))) (a .args .table .now) (r .last .1 .1 .0)) late (r .ensures)))
 
 same-length-2 : tie.Need-same-length-2
@@ -88,7 +86,7 @@ returns-4 c =
     let a = c .before .before .before .before .before .before .before .before .before .before .before .before .before .before in
     let z = c .before .before .before .before .before .before .before .before .before .before in
     let r = c .before .before .before .before .before .fill-rows in
-    ended-full (a .args .s) (a .args .table .now) (fits z) (taken z) (c .before .before .before .before .before .before .before .if1 .left)
+    answers-full (a .args .s) (a .args .table .now) (fits z) (sound z) (c .before .before .before .before .before .before .before .if1 .left)
     (subst (Filled (tasksOf (a .args .s)) (a .args .s .count) (allJobs (tasksOf (a .args .s))) (a .args .table .now) (r .last .1 .1 .0)) (c .before .found .given .1) (r .ensures))
 
 pub responses-spec : {M : Type 1} → statement M

@@ -1,16 +1,14 @@
 -- Each judgement is made in its turn, on the numbers that the definition names.
 use mathlib.Core.Path.{_≡_, sym, ap, ap₂, _∙_}
 use native.Mathlib.Omega.{arith}
-use lib.ListN.{length-map}
 use Rattle.arith.specs.Limit.{told-is, told-over}
 use Rattle.answers.specs.declared.Verdict.the-variants.{Fine}
 use Rattle.answers.specs.Answers.{given, fine, refusal, told}
 use Rattle.answers.specs.AnswerLaws.{refusal-is}
 use Rattle.sheet.specs.Calls.{judgeOf}
-use Rattle.sheet.specs.Sound.{judged-sound}
+use Rattle.sheet.specs.Sound.{Sound, judged-sound}
 use Rattle.schedule.specs.Cases.{sizes-refused, sizes-over, sizes-many, sizes-fit}
 use Rattle.schedule.specs.Answer.{mostTicks}
-use Rattle.schedule.specs.Steps.{Taken}
 use borrow.Author.Needs.{needs}
 use Rattle.schedule.proofs.sizes.Statement.{statement}
 use Rattle.schedule.proofs.sizes.Tie as tie
@@ -19,8 +17,8 @@ use Rattle.schedule.proofs.sizes.Tie as tie
 fine-then : (c : tie.After-judge) → c .judge .result ≡ Fine → judgeOf (c .before .args .s) ≡ fine
 fine-then c e = sym (c .judge .ensures) ∙ ap told e
 
-taken : (c : tie.After-judge) → c .judge .result ≡ Fine → Taken (c .before .args .s)
-taken c e = record { sound = judged-sound (c .before .args .s) (fine-then c e); whole = sym (length-map (c .before .args .s .tasks) _) ∙ c .before .good .0 .1 .1 .0 .1 .0 .1 }
+sound : (c : tie.After-judge) → c .judge .result ≡ Fine → Sound (c .before .args .s)
+sound c e = judged-sound (c .before .args .s) (fine-then c e)
 
 judge-requires : tie.Need-judge-requires
 judge-requires c κs = search needs
@@ -41,7 +39,7 @@ returns c =
     sym (sizes-refused (c .before .before .before .before .args .s) (c .refusal-of .result) (sym (v .ensures) ∙ ap told no ∙ ap refusal (sym (refusal-is (c .refusal-of .ensures) no))))
 
 hyperperiod-requires : tie.Need-hyperperiod-requires
-hyperperiod-requires c κs = taken (c .before .before) (c .enum-told .given .1)
+hyperperiod-requires c κs = sound (c .before .before) (c .enum-told .given .1)
 
 enum-known-m : tie.Need-enum-known-m
 enum-known-m c = search needs
@@ -57,7 +55,7 @@ returns-2 c =
 job-count-requires : tie.Need-job-count-requires
 job-count-requires c κs =
     let is = told-is mostTicks _ (c .before .before .before .hyperperiod .ensures) (c .before .m .given .1) in
-    (taken (c .before .before .before .before .before .before) (c .before .before .before .before .enum-told .given .1), record { is-hyperperiod = is .0; within-limit = omega (arith, is) })
+    (sound (c .before .before .before .before .before .before) (c .before .before .before .before .enum-told .given .1), record { is-hyperperiod = is .0; within-limit = omega (arith, is) })
 
 returns-3 : tie.Need-returns-3
 returns-3 c =

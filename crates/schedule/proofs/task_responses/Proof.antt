@@ -1,7 +1,7 @@
 -- The rows that `responses` leaves hold each task's responses, so the greatest entry of a row is R of its task.
 use mathlib.Core.Path.{_≡_, refl, sym, ap, _∙_}
 use native.Mathlib.Omega.{arith}
-use lib.ListN.{length, replicate, length-map}
+use lib.ListN.{length, replicate}
 use Rattle.bits.specs.Bits.{listOf}
 use Rattle.sheet.specs.declared.Sheet.{Sheet}
 use Rattle.answers.specs.declared.Refusal.{Refusal}
@@ -34,7 +34,7 @@ returns : tie.Need-returns
 returns c =
     let r = c .before .before .before .before .responses in
     let s = c .before .before .before .before .before .before .before .args .s in
-    (r .ensures .0, (r .ensures .1, greatest-none (c .enum-told .given .0 .0) s ∙ sym (ap (λ a. greatestAfter a s) (sym (r .ensures .0) ∙ ap toldTotals (c .enum-told .given .1)))))
+    (r .ensures, greatest-none (c .enum-told .given .0 .0) s ∙ sym (ap (λ a. greatestAfter a s) (sym (r .ensures .0) ∙ ap toldTotals (c .enum-told .given .1))))
 
 greatest-each-requires : tie.Need-greatest-each-requires
 greatest-each-requires c κs =
@@ -44,7 +44,7 @@ greatest-each-requires c κs =
     let old = a .args .table .now in
     let e = sym (r .ensures .0) ∙ ap toldTotals (c .before .before .answer .given .1) in
     let g = responses-given s (length old) e in (
-      record { sound = judged-sound s (g .judged-fine); whole = sym (length-map (s .tasks) _) ∙ a .good .0 .1 .1 .0 .1 .0 .1 },
+      judged-sound s (g .judged-fine),
       (
         record { is-hyperperiod = g .hyperperiod-is; within-limit = omega (arith, g) },
         filled-holds s old e (r .ensures .1),
@@ -59,7 +59,7 @@ returns-2 c =
     let r = c .before .before .before .before .before .before .before .responses in
     let s = c .before .before .before .before .before .before .before .before .before .before .args .s in
     let e = sym (r .ensures .0) ∙ ap toldTotals (c .before .before .before .answer .given .1) in
-    (sym e, (r .ensures .1, c .greatest-each .ensures ∙ sym (ap (λ a. greatestAfter a s) e)))
+    ((sym e, r .ensures .1), c .greatest-each .ensures ∙ sym (ap (λ a. greatestAfter a s) e))
 
 pub task-responses-spec : {M : Type 1} → statement M
 task-responses-spec =

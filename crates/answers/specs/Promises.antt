@@ -4,5 +4,5 @@ use Rattle.answers.specs.declared.Refusal.{Refusal}
 use Rattle.answers.specs.declared.Verdict.{Verdict}
 use Rattle.answers.specs.Answers.{refusalIn}
 
-abbrev pub RefusalOf : Verdict → Refusal → Type 0
-RefusalOf v r = r ≡ refusalIn v
+abbrev pub RefusalOfPromise : Verdict → Refusal → Type 0
+RefusalOfPromise v r = r ≡ refusalIn v

@@ -2,7 +2,7 @@
 use mathlib.Core.Path.{_≡_, sym, _∙_}
 use Rattle.answers.specs.declared.Refusal.{Refusal}
 use Rattle.answers.specs.declared.Verdict.{Verdict}
-use Rattle.answers.specs.Promises.{RefusalOf}
+use Rattle.answers.specs.Promises.{RefusalOfPromise}
 
-pub refusal-of-unique : (v : Verdict) (r q : Refusal) → RefusalOf v r → RefusalOf v q → r ≡ q
+pub refusal-of-unique : (v : Verdict) (r q : Refusal) → RefusalOfPromise v r → RefusalOfPromise v q → r ≡ q
 refusal-of-unique v r q h g = h ∙ sym g

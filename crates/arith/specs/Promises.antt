@@ -11,21 +11,21 @@ use Rattle.arith.specs.Limit.{told, within}
 use Rattle.arith.specs.Ranges.{maximum}
 
 -- The greatest common divisor of a and b; with 0 the other number.
-abbrev pub Gcd : ℕ → ℕ → ℕ → Type 0
-Gcd a b r = r ≡ gcd a b
+abbrev pub GcdPromise : ℕ → ℕ → ℕ → Type 0
+GcdPromise a b r = r ≡ gcd a b
 
 -- The least common multiple of a and b where it is at most the limit, or that it is over.
-abbrev pub Lcm : ℕ → ℕ → ℕ → Multiple → Type 0
-Lcm a b limit r = told r ≡ within limit (lcm a b)
+abbrev pub LcmPromise : ℕ → ℕ → ℕ → Multiple → Type 0
+LcmPromise a b limit r = told r ≡ within limit (lcm a b)
 
 -- The least multiple of the period that is at least x; 0 for a period of 0.
-abbrev pub Up : ℕ → ℕ → ℕ → Type 0
-Up period x r = r ≡ up period x
+abbrev pub UpPromise : ℕ → ℕ → ℕ → Type 0
+UpPromise period x r = r ≡ up period x
 
 -- The greatest entry of a row, 0 of none.
-abbrev pub Greatest : List ℕ → ℕ → Type 0
-Greatest row r = r ≡ maximum (length row) (λ k. getD row k 0)
+abbrev pub GreatestPromise : List ℕ → ℕ → Type 0
+GreatestPromise row r = r ≡ maximum (length row) (λ k. getD row k 0)
 
 -- How far a number is from zero.
-abbrev pub Magnitude : ℤ → ℕ → Type 0
-Magnitude z r = r ≡ natAbs z
+abbrev pub MagnitudePromise : ℤ → ℕ → Type 0
+MagnitudePromise z r = r ≡ natAbs z

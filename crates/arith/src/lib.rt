@@ -1,12 +1,12 @@
 // The numbers behind hyperperiod, next release, quick bound, response of a task and margin: greatest common divisor, least
 // common multiple, next multiple, greatest entry and distance from zero. Each call answers every input, as the predicate of its
 // name in specs/Promises.antt says; callers go by the laws in specs/WholeLaws.antt and specs/RangeLaws.antt.
-ghost use Rattle.arith.specs.Promises.{Gcd, Lcm, Up, Greatest, Magnitude};
+ghost use Rattle.arith.specs.Promises.{GcdPromise, LcmPromise, UpPromise, GreatestPromise, MagnitudePromise};
 
 // The greatest common divisor of a and b, by Euclid's rule asked of a smaller pair (document 01, "Our forms").
 // With 0 it is the other number, and of 0 and 0 it is 0.
 pub fn gcd(a: u32, b: u32) -> u32
-    ensures { λ r. ⌜ Gcd a b r ⌝ }
+    ensures { λ r. ⌜ GcdPromise a b r ⌝ }
 {
     if b == 0 { a } else { gcd(b, a % b) }
 }
@@ -19,7 +19,7 @@ pub enum Multiple {
 
 // The least common multiple of a and b where it is at most the limit; with 0 it is 0.
 pub fn lcm(a: u32, b: u32, limit: u32) -> Multiple
-    ensures { λ r. ⌜ Lcm a b limit r ⌝ }
+    ensures { λ r. ⌜ LcmPromise a b limit r ⌝ }
 {
     if a == 0 {
         return Multiple::Is(0);
@@ -36,7 +36,7 @@ pub fn lcm(a: u32, b: u32, limit: u32) -> Multiple
 
 // The least multiple of the period that is at least x; the only multiple of 0 is 0.
 pub fn up(period: u32, x: u32) -> u64
-    ensures { λ r. ⌜ Up period x r ⌝ }
+    ensures { λ r. ⌜ UpPromise period x r ⌝ }
 {
     if period == 0 {
         return 0;
@@ -47,7 +47,7 @@ pub fn up(period: u32, x: u32) -> u64
 
 // The greatest entry of a row, 0 of none.
 pub fn greatest(row: &[u32]) -> u32
-    ensures { λ r. ⌜ Greatest (now (row .entry)) r ⌝ }
+    ensures { λ r. ⌜ GreatestPromise (now (row .entry)) r ⌝ }
 {
     let mut most = 0u32;
     let mut k = 0usize;
@@ -62,7 +62,7 @@ pub fn greatest(row: &[u32]) -> u32
 
 // How far a number is from zero.
 pub fn magnitude(z: i32) -> u64
-    ensures { λ r. ⌜ Magnitude z r ⌝ }
+    ensures { λ r. ⌜ MagnitudePromise z r ⌝ }
 {
     let ticks = z as i64;
     if ticks < 0 {

@@ -5,7 +5,7 @@ ghost use mathlib.Core.Path.{_≡_};
 ghost use Prim.Native.Nat.{_-_, _*_, _/_, _^_, _<_, min};
 ghost use lib.ListN.{set};
 ghost use Rattle.bits.specs.Bits.{odd, bits, unpack, number};
-ghost use Rattle.bits.specs.Promises.{Number, Put};
+ghost use Rattle.bits.specs.Promises.{NumberPromise, PutPromise};
 
 fn wide(x: u8) -> u64
     ensures { λ r. ⌜ r ≡ x ⌝ }
@@ -56,7 +56,7 @@ fn around(bytes: &[u8], at: u32) -> u64
 
 // The number in the `width` bits from bit `at` on. A bit past the end counts as 0, and a width over 32 as 32.
 pub fn number(bytes: &[u8], at: u32, width: u32) -> u32
-    ensures { λ r. ⌜ Number (now (bytes .entry)) at width r ⌝ }
+    ensures { λ r. ⌜ NumberPromise (now (bytes .entry)) at width r ⌝ }
 {
     let end = held(width);
     let rest = 40 - at % 8 - end;
@@ -87,7 +87,7 @@ fn put_bit(out: &mut [u8], at: usize, b: u64)
 
 // The `width` lowest bits of a value put at bit `at`. A bit past the end is dropped, and a width over 32 counts as 32.
 pub fn put(out: &mut [u8], at: u32, width: u32, value: u32)
-    ensures { λ r. ⌜ Put (now (out .entry)) at width value (now (out .exit)) ⌝ }
+    ensures { λ r. ⌜ PutPromise (now (out .entry)) at width value (now (out .exit)) ⌝ }
 {
     let end = held(width);
     let mut k = 0u32;

@@ -34,8 +34,9 @@ spelt-at-requires c κs = search needs
 
 cast-chain : tie.Need-cast-chain Inv-loop μ-loop
 cast-chain c =
-    let a = c .before .before .before .before .before .args in
-    omega (arith, c .spelt-at .ensures, number-lt (unpack (a .bytes .now)) (place (a .n) (Entry (c .before .before .loop .i))) 4)
+    let turn = c .before .before in
+    let a = turn .before .before .before .args in
+    omega (arith, c .spelt-at .ensures, number-lt (unpack (a .bytes .now)) (place (a .n) (Entry (turn .loop .i))) 4)
 
 array-write-chain : tie.Need-array-write-chain Inv-loop μ-loop
 array-write-chain c = omega (arith, c .before .before .loop .inv .1)
@@ -48,8 +49,9 @@ loop-less c = search needs
 
 loop-again : tie.Need-loop-again Inv-loop μ-loop
 loop-again c =
-    let a = c .before .before .before .before .before .args in
-    let l = c .before .before .loop in
+    let turn = c .before .before in
+    let a = turn .before .before .before .args in
+    let l = turn .loop in
     let f = entrySpelt (unpack (a .bytes .now)) (a .n) in (
       omega arith,
       l .inv .1,

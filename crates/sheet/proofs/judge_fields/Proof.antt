@@ -53,25 +53,35 @@ width-of-requires c κs = search needs
 
 add-end : tie.Need-add-end Inv-loop μ-loop
 add-end c =
-    omega (arith, c .before .place-of .ensures, c .width-of .ensures, end-small (c .before .before .before .before .before .short .result) (c .before .before .before .loop .f) (c .before .before .before .before .before .short .ensures .1) (omega arith))
+    let at-place-of = c .before in
+    let turn = at-place-of .before .before in
+    let at-short = turn .before .before in
+    omega (arith, at-place-of .place-of .ensures, c .width-of .ensures, end-small (at-short .short .result) (turn .loop .f) (at-short .short .ensures .1) (omega arith))
 
 add-if1 : tie.Need-add-if1 Inv-loop μ-loop
 add-if1 c =
-    omega (arith, c .before .place-of .ensures, c .width-of .ensures, end-small (c .before .before .before .before .before .short .result) (c .before .before .before .loop .f) (c .before .before .before .before .before .short .ensures .1) (omega arith))
+    let at-place-of = c .before in
+    let turn = at-place-of .before .before in
+    let at-short = turn .before .before in
+    omega (arith, at-place-of .place-of .ensures, c .width-of .ensures, end-small (at-short .short .result) (turn .loop .f) (at-short .short .ensures .1) (omega arith))
 
 cast-if1 : tie.Need-cast-if1 Inv-loop μ-loop
 cast-if1 c = search needs
 
 returns : tie.Need-returns Inv-loop μ-loop
 returns c =
-    let a = c .before .before .before .before .before .before .before .args in
-    let l = c .before .before .before .before .loop in
-    let n : ℕ = c .before .before .before .before .before .before .short .result in
+    let at-width-of = c .before in
+    let at-place-of = at-width-of .before in
+    let turn = at-place-of .before .before in
+    let at-short = turn .before .before in
+    let a = at-short .before .args in
+    let l = turn .loop in
+    let n : ℕ = at-short .short .result in
     let room : ℕ = a .len * 8 in
     let end = ap (λ k. place k (l .f)) (l .inv .0) in
     let left = first (judgedIn room (a .s)) (onward n (next n (l .f)) (l .left - 1)) in
     sym (l .inv .2 ∙ first-step (judgedIn room (a .s)) n (l .left) (l .f) (omega arith)
-    ∙ ap (λ j. also j left) (judged-short room (a .s) (l .f) (omega (arith, end, c .before .before .place-of .ensures, c .before .width-of .ensures))))
+    ∙ ap (λ j. also j left) (judged-short room (a .s) (l .f) (omega (arith, end, at-place-of .place-of .ensures, at-width-of .width-of .ensures))))
 
 judge-field-requires : tie.Need-judge-field-requires Inv-loop μ-loop
 judge-field-requires c κs = search needs
@@ -84,17 +94,23 @@ enum-told-2 c = search needs
 
 returns-2 : tie.Need-returns-2 Inv-loop μ-loop
 returns-2 c =
-    let a = c .before .before .before .before .before .before .before .before .before .before .args in
-    let l = c .before .before .before .before .before .before .before .loop in
-    let n : ℕ = c .before .before .before .before .before .before .before .before .before .short .result in
+    let at-judge-field = c .before .before in
+    let at-if-1 = at-judge-field .before in
+    let at-width-of = at-if-1 .before in
+    let at-place-of = at-width-of .before in
+    let turn = at-place-of .before .before in
+    let at-short = turn .before .before in
+    let a = at-short .before .args in
+    let l = turn .loop in
+    let n : ℕ = at-short .short .result in
     let room : ℕ = a .len * 8 in
     let end = ap (λ k. place k (l .f)) (l .inv .0) in
     let left = first (judgedIn room (a .s)) (onward n (next n (l .f)) (l .left - 1)) in
     let no = c .enum-told2 .given .1 in
     ap told no
     ∙ sym (l .inv .2 ∙ first-step (judgedIn room (a .s)) n (l .left) (l .f) (omega arith)
-    ∙ ap (λ j. also j left) (judged-whole room (a .s) (l .f) (omega (arith, end, c .before .before .before .if1 .left, c .before .before .before .before .before .place-of .ensures, c .before .before .before .before .width-of .ensures)))
-    ∙ also-no left (c .before .before .judge-field .ensures) no)
+    ∙ ap (λ j. also j left) (judged-whole room (a .s) (l .f) (omega (arith, end, at-if-1 .if1 .left, at-place-of .place-of .ensures, at-width-of .width-of .ensures)))
+    ∙ also-no left (at-judge-field .judge-field .ensures) no)
 
 next-of-requires : tie.Need-next-of-requires Inv-loop μ-loop
 next-of-requires c κs = omega arith
@@ -107,9 +123,16 @@ loop-less c = search needs
 
 loop-again : tie.Need-loop-again Inv-loop μ-loop
 loop-again c =
-    let a = c .before .before .before .before .before .before .before .before .before .before .before .args in
-    let l = c .before .before .before .before .before .before .before .before .loop in
-    let n : ℕ = c .before .before .before .before .before .before .before .before .before .before .short .result in
+    let at-enum-told = c .before in
+    let at-judge-field = at-enum-told .before .before in
+    let at-if-1 = at-judge-field .before in
+    let at-width-of = at-if-1 .before in
+    let at-place-of = at-width-of .before in
+    let turn = at-place-of .before .before in
+    let at-short = turn .before .before in
+    let a = at-short .before .args in
+    let l = turn .loop in
+    let n : ℕ = at-short .short .result in
     let room : ℕ = a .len * 8 in
     let end = ap (λ k. place k (l .f)) (l .inv .0) in
     let judge = judgedIn room (a .s) in
@@ -117,8 +140,8 @@ loop-again c =
       l .inv .0,
       omega (arith, ap index (c .next-of .ensures), index-next n (l .f)),
       l .inv .2 ∙ first-step judge n (l .left) (l .f) (omega arith)
-          ∙ ap (λ j. also j left) (judged-whole room (a .s) (l .f) (omega (arith, end, c .before .before .before .before .if1 .left, c .before .before .before .before .before .before .place-of .ensures, c .before .before .before .before .before .width-of .ensures)))
-          ∙ also-fine left (c .before .before .before .judge-field .ensures) (c .before .enum-told .given .1)
+          ∙ ap (λ j. also j left) (judged-whole room (a .s) (l .f) (omega (arith, end, at-if-1 .if1 .left, at-place-of .place-of .ensures, at-width-of .width-of .ensures)))
+          ∙ also-fine left (at-judge-field .judge-field .ensures) (at-enum-told .enum-told .given .1)
           ∙ ap (λ f. first judge (onward n f (l .left - 1))) (sym (c .next-of .ensures)),
     )
 

@@ -94,7 +94,10 @@ returns-5 : tie.Need-returns-5
 returns-5 c = omega (arith, c .long4 .ensures, ap (place (c .before .before .before .args .n)) (c .before .enum-told2 .given .1))
 
 returns-6 : tie.Need-returns-6
-returns-6 c = omega (arith, c .before .long5 .ensures, c .long6 .ensures, ap (place (c .before .before .before .before .before .args .n)) (c .before .before .before .f4 .given .1))
+returns-6 c =
+    let at-long-5 = c .before in
+    let at-f-4 = at-long-5 .before .before in
+    omega (arith, at-long-5 .long5 .ensures, c .long6 .ensures, ap (place (at-f-4 .before .before .args .n)) (at-f-4 .f4 .given .1))
 
 pub place-of-spec : {M : Type 1} → statement M
 place-of-spec =

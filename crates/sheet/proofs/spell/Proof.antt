@@ -49,13 +49,20 @@ chain-at-requires c κs = search needs
 returns : tie.Need-returns
 unfolding sheetOf
 returns c =
-    let bs = unpack (c .before .before .before .before .before .before .before .before .before .args .bytes .now) in
-    let n : ℕ = c .before .before .before .before .before .before .before .spelt-at .result in
-    let m : ℕ = c .before .before .before .before .before .spelt-at2 .result in
-    let n-is : n ≡ spelt bs 0 Count = c .before .before .before .before .before .before .before .spelt-at .ensures in
-    let m-is : m ≡ spelt bs n Length = c .before .before .before .before .before .spelt-at2 .ensures ∙ ap (λ k. spelt bs k Length) (c .before .before .before .before .before .before .short .ensures .0) in
-    let tasks-are = c .before .before .before .tasks-at .ensures ∙ ap (λ k. places none k (taskSpelt bs k)) (c .before .before .before .before .short2 .ensures .0) in
-    let chain-is = c .chain-at .ensures ∙ ap₂ (λ k l. places 0 l (entrySpelt bs k)) (c .before .before .short3 .ensures .0) (c .before .short4 .ensures .0) in
+    let at-short-4 = c .before in
+    let at-short-3 = at-short-4 .before in
+    let at-tasks-at = at-short-3 .before in
+    let at-short-2 = at-tasks-at .before in
+    let at-spelt-at-2 = at-short-2 .before in
+    let at-short = at-spelt-at-2 .before in
+    let at-spelt-at = at-short .before in
+    let bs = unpack (at-spelt-at .before .before .args .bytes .now) in
+    let n : ℕ = at-spelt-at .spelt-at .result in
+    let m : ℕ = at-spelt-at-2 .spelt-at2 .result in
+    let n-is : n ≡ spelt bs 0 Count = at-spelt-at .spelt-at .ensures in
+    let m-is : m ≡ spelt bs n Length = at-spelt-at-2 .spelt-at2 .ensures ∙ ap (λ k. spelt bs k Length) (at-short .short .ensures .0) in
+    let tasks-are = at-tasks-at .tasks-at .ensures ∙ ap (λ k. places none k (taskSpelt bs k)) (at-short-2 .short2 .ensures .0) in
+    let chain-is = c .chain-at .ensures ∙ ap₂ (λ k l. places 0 l (entrySpelt bs k)) (at-short-3 .short3 .ensures .0) (at-short-4 .short4 .ensures .0) in
     ap₂ (λ x y. record { tasks = x; chain = y; count = n; length = m }) tasks-are chain-is
     ∙ ap₂ (sheetSpelt bs) n-is (m-is ∙ ap (λ k. spelt bs k Length) n-is)
 

@@ -44,8 +44,9 @@ loop-less c = search needs
 
 loop-again : tie.Need-loop-again Inv-loop μ-loop
 loop-again c =
-    let a = c .before .before .before .before .before .args in
-    let l = c .before .before .loop in
+    let turn = c .before .before in
+    let a = turn .before .before .before .args in
+    let l = turn .loop in
     let f = taskSpelt (unpack (a .bytes .now)) (a .n) in (
       omega arith,
       l .inv .1,

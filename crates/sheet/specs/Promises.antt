@@ -10,7 +10,7 @@ use Rattle.sheet.specs.declared.Sheet.{Sheet}
 use Rattle.sheet.specs.declared.Reading.{Reading}
 use Rattle.sheet.specs.declared.Written.{Written}
 use Rattle.sheet.specs.Calls.{judgeOf, readOf, writeOf, bufferAfter}
-use Rattle.sheet.specs.Told.{toldSheet, toldBytes, sheetIn, noBytes}
+use Rattle.sheet.specs.Answers.{toldSheet, toldBytes, sheetIn, noBytes}
 
 abbrev pub Judge : Sheet → Verdict → Type 0
 Judge s v = told v ≡ judgeOf s

@@ -12,7 +12,7 @@ use Rattle.sheet.specs.declared.Reading.{Reading}
 use Rattle.sheet.specs.declared.Written.{Written}
 use Rattle.sheet.specs.declared.Written.the-variants.{Bytes, No as NoBytes}
 use Rattle.sheet.specs.Calls.{bufferAfter}
-use Rattle.sheet.specs.Told.{toldBytes}
+use Rattle.sheet.specs.Answers.{toldBytes}
 use Rattle.sheet.specs.Promises.{Judge, Read, Write, WrittenRefusal}
 
 pub judge-unique : (s : Sheet) (v w : Verdict) → Judge s v → Judge s w → v ≡ w

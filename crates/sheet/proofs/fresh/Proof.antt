@@ -4,7 +4,7 @@ use Prim.Native.Nat.{_-_, _≤_}
 use native.Mathlib.Omega.{arith}
 use Rattle.answers.specs.Answers.{when}
 use Rattle.sheet.specs.Fields.{among}
-use Rattle.sheet.specs.Steps.{nth}
+use Rattle.sheet.specs.Order.{nth}
 use Rattle.sheet.specs.FieldLaws.{among-here, among-past, among-none}
 use borrow.Author.Needs.{needs}
 use Rattle.sheet.proofs.fresh.Statement.{statement}

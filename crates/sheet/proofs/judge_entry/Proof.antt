@@ -4,7 +4,7 @@ use native.Mathlib.Omega.{arith}
 use borrow.Author.Tests.{le-leb, lt-leb}
 use Rattle.answers.specs.Answers.{when, also}
 use Rattle.sheet.specs.Fields.{among}
-use Rattle.sheet.specs.Steps.{nth}
+use Rattle.sheet.specs.Order.{nth}
 use borrow.Author.Needs.{needs}
 use Rattle.sheet.proofs.judge_entry.Statement.{statement}
 use Rattle.sheet.proofs.judge_entry.Tie as tie

@@ -1,7 +1,7 @@
 -- Each arm is the definition's clause for its field.
 use mathlib.Core.Path.{sym, ap, ap₂, _∙_}
 use Rattle.answers.specs.Answers.{when}
-use Rattle.sheet.specs.Fields.{outside, among, judged}
+use Rattle.sheet.specs.Fields.{value, outside, among, judged}
 use borrow.Author.Needs.{needs}
 use Rattle.sheet.proofs.judge_field.Statement.{statement}
 use Rattle.sheet.proofs.judge_field.Tie as tie
@@ -67,8 +67,8 @@ returns : tie.Need-returns
 returns c =
     let a = c .before .before .before .before .args in
     c .ranged .ensures
-    ∙ ap (λ v. when (outside 1 16 v) 2) (c .before .wide .ensures)
-    ∙ sym (ap (judged (a .s)) (c .before .before .enum-told .given .1))
+    ∙ ap (λ v. when (outside 1 16 v) 2) (c .before .wide .ensures .0)
+    ∙ sym (ap (judged (value (a .s))) (c .before .before .enum-told .given .1))
 
 returns-2 : tie.Need-returns-2
 returns-2 c =
@@ -77,7 +77,7 @@ returns-2 c =
     let a = at-f .before .before .args in
     c .ranged2 .ensures
     ∙ ap (λ t. when (outside 1 100000 (t .period)) 3) (at-task-of .task-of .ensures)
-    ∙ sym (ap (judged (a .s)) (at-f .f .given .1))
+    ∙ sym (ap (judged (value (a .s))) (at-f .f .given .1))
 
 returns-3 : tie.Need-returns-3
 returns-3 c =
@@ -86,7 +86,7 @@ returns-3 c =
     let a = at-f-2 .before .before .args in
     c .ranged3 .ensures
     ∙ ap (λ t. when (outside 1 (t .period) (t .budget)) 4) (at-task-of-2 .task-of2 .ensures)
-    ∙ sym (ap (judged (a .s)) (at-f-2 .f2 .given .1))
+    ∙ sym (ap (judged (value (a .s))) (at-f-2 .f2 .given .1))
 
 returns-4 : tie.Need-returns-4
 returns-4 c =
@@ -96,7 +96,7 @@ returns-4 c =
     let i = at-f-3 .f3 .given .0 .0 in
     c .fresh .ensures
     ∙ ap (λ r. when (among r i (r i)) 5) (at-ranks-of .ranks-of .ensures)
-    ∙ sym (ap (judged (a .s)) (at-f-3 .f3 .given .1))
+    ∙ sym (ap (judged (value (a .s))) (at-f-3 .f3 .given .1))
 
 returns-5 : tie.Need-returns-5
 returns-5 c =
@@ -105,11 +105,11 @@ returns-5 c =
     let at-enum-told-2 = at-wide-2 .before in
     let a = at-enum-told-2 .before .before .args in
     c .ranged4 .ensures
-    ∙ ap₂ (λ n v. when (outside 1 n v) 6) (at-wide-2 .wide2 .ensures) (at-wide-3 .wide3 .ensures)
-    ∙ sym (ap (judged (a .s)) (at-enum-told-2 .enum-told2 .given .1))
+    ∙ ap₂ (λ n v. when (outside 1 n v) 6) (at-wide-2 .wide2 .ensures .0) (at-wide-3 .wide3 .ensures .0)
+    ∙ sym (ap (judged (value (a .s))) (at-enum-told-2 .enum-told2 .given .1))
 
 returns-6 : tie.Need-returns-6
-returns-6 c = c .judge-entry .ensures ∙ sym (ap (judged (c .before .before .before .before .args .s)) (c .before .before .f4 .given .1))
+returns-6 c = c .judge-entry .ensures ∙ sym (ap (judged (value (c .before .before .before .before .args .s))) (c .before .before .f4 .given .1))
 
 pub judge-field-spec : {M : Type 1} → statement M
 judge-field-spec =

@@ -11,7 +11,7 @@ use Rattle.answers.specs.declared.Verdict.the-variants.{No}
 use Rattle.answers.specs.Answers.{given, also, refusal}
 use Rattle.answers.specs.AnswerLaws.{also-no, also-fine}
 use Rattle.sheet.specs.Calls.{tailOf, endOf, sheetOf, readAs, readOf}
-use Rattle.sheet.specs.Told.{toldSheet, blank, sheetIn}
+use Rattle.sheet.specs.Answers.{toldSheet, blank, sheetIn}
 use borrow.Author.Needs.{needs}
 use Rattle.sheet.proofs.read.Statement.{statement}
 use Rattle.sheet.proofs.read.Tie as tie
@@ -78,7 +78,7 @@ returns-2 c =
     let p = at-enum-told-4 .enum-told4 .given .1 in
     no bytes (s .result) _ _ (c .refused2 .result) (s .ensures)
     (also-fine (also (tailOf bytes (endOf (s .result))) (given (s .result))) (at-judge-fields .judge-fields .ensures) (at-enum-told .enum-told .given .1)
-    ∙ also-no (given (s .result)) (at-judge-tail .judge-tail .ensures ∙ ap (tailOf bytes) (at-end-of .end-of .ensures)) p)
+    ∙ also-no (given (s .result)) (at-judge-tail .judge-tail .ensures ∙ ap (tailOf bytes) (at-end-of .end-of .ensures .0)) p)
     p (c .refused2 .ensures)
 
 returns-3 : tie.Need-returns-3
@@ -95,7 +95,7 @@ returns-3 c =
     let e : readOf bytes ≡ given (s .result) =
     ap (readAs bytes) (sym (s .ensures))
     ∙ also-fine (also (tailOf bytes (endOf (s .result))) (given (s .result))) (at-judge-fields .judge-fields .ensures) (at-enum-told .enum-told .given .1)
-    ∙ also-fine (given (s .result)) (at-judge-tail .judge-tail .ensures ∙ ap (tailOf bytes) (at-end-of .end-of .ensures)) p in
+    ∙ also-fine (given (s .result)) (at-judge-tail .judge-tail .ensures ∙ ap (tailOf bytes) (at-end-of .end-of .ensures .0)) p in
     (also-fine (given (s .result)) refl p ∙ sym e, sym (ap sheetIn e))
 
 pub read-spec : {M : Type 1} → statement M

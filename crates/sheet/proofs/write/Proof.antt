@@ -14,6 +14,7 @@ use Rattle.bits.specs.Bytes.{written-is}
 use Rattle.sheet.specs.declared.Sheet.{Sheet}
 use Rattle.answers.specs.Answers.{Answer, given, when, also, refusal}
 use Rattle.answers.specs.AnswerLaws.{also-no, also-fine, refusal-is}
+use Rattle.sheet.specs.Fields.{value}
 use Rattle.sheet.specs.FormatLaws.{length-bits-of}
 use Rattle.sheet.specs.Calls.{fieldsOf, bitsOf, endOf, sizeOf, writeOf}
 use borrow.Author.Needs.{needs}
@@ -64,7 +65,7 @@ returns-2 c =
     let a = at-judge .before .before .args in
     let room = length (a .out .now) in (
       sym (also-fine (afterwards (a .s) room) (at-judge .judge .ensures) (at-enum-told .enum-told .given .1)
-          ∙ ap (λ b. also (when b 14) (given (sizeOf (a .s)))) (lt-ltb room (sizeOf (a .s)) (omega (arith, at-end-of .end-of .ensures)))),
+          ∙ ap (λ b. also (when b 14) (given (sizeOf (a .s)))) (lt-ltb room (sizeOf (a .s)) (omega (arith, at-end-of .end-of .ensures .0)))),
       refl,
     )
 
@@ -100,9 +101,9 @@ returns-3 c =
     let s = a .s in
     let old = a .out .now in
     let end : ℕ = at-end-of .end-of .result in
-    let end-is : end ≡ endOf s = at-end-of .end-of .ensures in
+    let end-is : end ≡ endOf s = at-end-of .end-of .ensures .0 in
     let fits : sizeOf s ≤ length old = omega (arith, end-is, at-if-1 .if1 .left) in
-    let bs = bitsOf s (fieldsOf s) in
+    let bs = bitsOf (value s) (fieldsOf s) in
     let z : ℕ = (end + 7) / 8 * 8 - end in
     let pad = bits z 0 in
     let long : length bs ≡ end = length-bits-of s ∙ sym end-is in

@@ -1,4 +1,4 @@
--- Laws of answers: what a refusal, or none, on the way comes to.
+-- Laws of judgements: the fields that are left, a field that the bytes may end in, and what a given answer tells of the code's.
 use mathlib.Core.Path.{_≡_, refl, ap}
 use mathlib.Core.List.{[]}
 use Prim.Native.Nat.{ℕ, _+_, _-_, _≤_, _<_}

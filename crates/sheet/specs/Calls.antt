@@ -56,6 +56,8 @@ abbrev pub bufferAfter : Answer ℕ → Sheet → List ℕ → List ℕ
 bufferAfter (given size) s old = written (packed s) old
 bufferAfter (refused number values) s old = old
 
+-- ---- a sheet by its values
+
 -- "its ranks are 8-bit numbers": what the struct's type says of every sheet in memory.
 abbrev pub RanksFit : Sheet → Type 0
 RanksFit s = (i : ℕ) → value s (Rank i) < 256
@@ -82,7 +84,7 @@ cleared s = sheetBy (value s)
 abbrev pub speltIn : List Bool → List Field → Values
 speltIn bs fs f = number bs (place fs f) (width f)
 
--- The counts come first of what they count: each is where it would be if nothing followed it.
+-- A count stands before what it counts: it is where it would be if nothing followed.
 abbrev pub countSpelt : List Bool → ℕ
 countSpelt bs = speltIn bs (fields 0 0) Count
 

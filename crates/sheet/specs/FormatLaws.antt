@@ -14,7 +14,7 @@ use Rattle.sheet.specs.declared.Field.{Field}
 use Rattle.sheet.specs.declared.Field.the-variants.{Count, Period, Budget, Rank, Length, Entry}
 use Rattle.sheet.specs.Fields.{Values, taskFields, entryFields, fields, width, widths, same, place, value}
 use Rattle.sheet.specs.Calls.{fieldsOf, bitsOf, endOf}
-use Rattle.sheet.specs.Order.{next}
+use Rattle.sheet.specs.Order.{next, taskBits}
 use Rattle.sheet.specs.FieldLaws.{same-itself, same-is, onward, onward-step}
 use Rattle.sheet.specs.EachLaws.{All, all-map, Each, all-each}
 
@@ -61,7 +61,7 @@ in-place-step p n left at f h e = subst (InPlace p at) (onward-step n left f h) 
 
 -- The bit at which task i begins, and a field on a sheet of n tasks.
 abbrev pub begin : ℕ → ℕ
-begin i = width Count + (width (Period i) + width (Budget i) + width (Rank i)) * i
+begin i = width Count + taskBits * i
 
 abbrev pub located : ℕ → Field → ℕ
 located n Count = 0

@@ -26,7 +26,10 @@ next n (Entry i) = Entry (i + 1)
 abbrev pub nth : List ℕ → ℕ → ℕ
 nth values i = getD values i 0
 
--- What bits hold in the fields of a task, the first of them at bit `at`.
+-- How many bits a task takes, and what bits hold in its fields, the first of them at bit `at`.
+abbrev pub taskBits : ℕ
+taskBits = width (Period 0) + width (Budget 0) + width (Rank 0)
+
 abbrev pub taskAt : List Bool → ℕ → Task
 taskAt bs at =
     let budget = at + width (Period 0) in

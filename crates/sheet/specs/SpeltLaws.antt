@@ -8,9 +8,9 @@ use Rattle.bits.specs.Bits.{number}
 use Rattle.theory.specs.Model.Schedule.{none}
 use Rattle.sheet.specs.declared.Sheet.{Sheet}
 use Rattle.sheet.specs.declared.Field.the-variants.{Count, Period, Budget, Rank, Length, Entry}
-use Rattle.sheet.specs.Fields.{Values, fields, place}
+use Rattle.sheet.specs.Fields.{Values, fields, width, place}
 use Rattle.sheet.specs.Calls.{places, taskBy, sheetBy, speltIn, countSpelt, lengthSpelt, spelt, sheetOf}
-use Rattle.sheet.specs.Order.{taskAt, entryAt}
+use Rattle.sheet.specs.Order.{taskBits, taskAt, entryAt}
 use Rattle.sheet.specs.PlaceLaws.{places-same}
 use Rattle.sheet.specs.EachLaws.{Each}
 use Rattle.sheet.specs.FormatLaws.{begin, located, place-located}
@@ -58,8 +58,8 @@ module _ (bs : List Bool) where
   abbrev sheetAt : ℕ → ℕ → Sheet
   sheetAt n m =
       record {
-        tasks = places none n (λ i. taskAt bs (begin 0 + 42 * i));
-        chain = places 0 m (λ i. entryAt bs (begin n + 5 + 4 * i));
+        tasks = places none n (λ i. taskAt bs (begin 0 + taskBits * i));
+        chain = places 0 m (λ i. entryAt bs (begin n + width Length + width (Entry i) * i));
         count = n;
         length = m;
       }
@@ -68,8 +68,8 @@ module _ (bs : List Bool) where
   unfolding place
   sheet-at n m c l =
       ap₂ (λ x y. record { tasks = x; chain = y; count = n; length = m })
-      (places-same none n (λ i. taskAt bs (begin 0 + 42 * i)) (taskBy v) (λ i b g. task i b))
-      (places-same 0 m (λ i. entryAt bs (begin n + 5 + 4 * i)) (λ i. v (Entry i)) (λ i b g. ap (λ at. number bs at 4) (omega (arith, at-place .of-entry i b))))
+      (places-same none n (λ i. taskAt bs (begin 0 + taskBits * i)) (taskBy v) (λ i b g. task i b))
+      (places-same 0 m (λ i. entryAt bs (begin n + width Length + width (Entry i) * i)) (λ i. v (Entry i)) (λ i b g. ap (λ at. number bs at 4) (omega (arith, at-place .of-entry i b))))
       ∙ ap₂ (λ k j. record { tasks = places none k (taskBy v); chain = places 0 j (λ i. v (Entry i)); count = k; length = j }) (sym count) (sym long)
       ∙ ap sheetBy (sym (spelt-is n m count long))
     where
@@ -85,7 +85,7 @@ module _ (bs : List Bool) where
       long : v Length ≡ m
       long = ap (λ at. number bs at 5) (at-place .of-length) ∙ sym l
 
-      task : (i : ℕ) → i < n → taskAt bs (begin 0 + 42 * i) ≡ taskBy v i
+      task : (i : ℕ) → i < n → taskAt bs (begin 0 + taskBits * i) ≡ taskBy v i
       task i b =
-          ap₂ (λ x y. record { period = x; budget = y; rank = number bs (begin 0 + 42 * i + 17 + 17) 8 }) (ap (λ at. number bs at 17) (omega (arith, at-place .of-period i b))) (ap (λ at. number bs at 17) (omega (arith, at-place .of-budget i b)))
+          ap₂ (λ x y. record { period = x; budget = y; rank = number bs (begin 0 + taskBits * i + 17 + 17) 8 }) (ap (λ at. number bs at 17) (omega (arith, at-place .of-period i b))) (ap (λ at. number bs at 17) (omega (arith, at-place .of-budget i b)))
           ∙ ap (λ z. record { period = v (Period i); budget = v (Budget i); rank = z }) (ap (λ at. number bs at 8) (omega (arith, at-place .of-rank i b)))

@@ -12,7 +12,7 @@ ghost use Rattle.bits.specs.Bits.{unpack};
 ghost use Rattle.theory.specs.Model.Schedule.{none};
 ghost use Rattle.answers.specs.Answers.{when, first, told};
 ghost use Rattle.sheet.specs.Fields.{width, index, value, outside, among, judged};
-ghost use Rattle.sheet.specs.Order.{opening, next, nth, taskAt, entryAt};
+ghost use Rattle.sheet.specs.Order.{opening, next, nth, taskBits, taskAt, entryAt};
 ghost use Rattle.sheet.specs.Calls.{places, fieldsOf, judgedIn, packed, endOf, sheetOf, tailOf};
 ghost use Rattle.sheet.specs.Answers.{blank};
 ghost use Rattle.sheet.specs.Promises.{Judge, Read, Write, WrittenRefusal};
@@ -277,7 +277,7 @@ fn taken(k: u16) -> u16
 // So many tasks, one after the other from bit `at` on.
 fn tasks_at(bytes: &[u8], at: u32, n: u16) -> [Task; 16]
     requires { ⌜ at ≤ 50000 ⌝ }
-    ensures { λ r. ⌜ r ≡ places none n (λ i. taskAt (unpack (now (bytes .entry))) (at + 42 * i)) ⌝ }
+    ensures { λ r. ⌜ r ≡ places none n (λ i. taskAt (unpack (now (bytes .entry))) (at + taskBits * i)) ⌝ }
 {
     let blank = Task {
         period: 0,
@@ -300,7 +300,7 @@ fn tasks_at(bytes: &[u8], at: u32, n: u16) -> [Task; 16]
 // So many entries of a chain.
 fn chain_at(bytes: &[u8], at: u32, m: u16) -> [u8; 16]
     requires { ⌜ at ≤ 50000 ⌝ }
-    ensures { λ r. ⌜ r ≡ places 0 m (λ i. entryAt (unpack (now (bytes .entry))) (at + 4 * i)) ⌝ }
+    ensures { λ r. ⌜ r ≡ places 0 m (λ i. entryAt (unpack (now (bytes .entry))) (at + width (Entry i) * i)) ⌝ }
 {
     let mut chain = [0u8; 16];
     let end = taken(m);

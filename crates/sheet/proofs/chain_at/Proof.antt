@@ -1,10 +1,12 @@
--- After i turns the first i places are taken, and the next entry begins four bits further for each of them.
+-- After i turns the first i places are taken, and the next entry begins so many entries further on.
 use mathlib.Core.Path.{_≡_, refl, ap, ap₂, _∙_}
 use Prim.Native.Nat.{ℕ, _+_, _-_, _*_, _≤_, min}
 use native.Mathlib.Omega.{arith}
 use lib.ListN.{set}
 use Rattle.bits.specs.Bits.{unpack, listOf}
 use Rattle.bits.specs.Laws.{number-lt}
+use Rattle.sheet.specs.declared.Field.the-variants.{Entry}
+use Rattle.sheet.specs.Fields.{width}
 use Rattle.sheet.specs.Calls.{places}
 use Rattle.sheet.specs.Order.{entryAt}
 use Rattle.sheet.specs.PlaceLaws.{places-set, places-most}
@@ -13,7 +15,7 @@ use Rattle.sheet.proofs.chain_at.Statement.{statement}
 use Rattle.sheet.proofs.chain_at.Tie as tie
 
 abbrev Inv-loop : tie.InvT-loop
-Inv-loop bytes at m chain₀ end begin₀ i₀ chain begin i = (i ≤ end) × (end ≡ min m 16) × (at ≤ 50000) × (begin ≡ at + 4 * i) × (chain ≡ places 0 i (λ j. entryAt (unpack bytes) (at + 4 * j)))
+Inv-loop bytes at m chain₀ end begin₀ i₀ chain begin i = (i ≤ end) × (end ≡ min m 16) × (at ≤ 50000) × (begin ≡ at + width (Entry i) * i) × (chain ≡ places 0 i (λ j. entryAt (unpack bytes) (at + width (Entry j) * j)))
 
 abbrev μ-loop : tie.MeasureT-loop
 μ-loop bytes at m chain₀ end begin₀ i₀ chain begin i = end - i
@@ -55,7 +57,7 @@ loop-again c =
     let a = turn .before .before .before .args in
     let l = turn .loop in
     let bs = unpack (a .bytes .now) in
-    let f : ℕ → ℕ = λ j. entryAt bs (a .at + 4 * j) in (
+    let f : ℕ → ℕ = λ j. entryAt bs (a .at + width (Entry j) * j) in (
       omega arith,
       l .inv .1,
       l .inv .2,
@@ -67,7 +69,7 @@ returns : tie.Need-returns Inv-loop μ-loop
 returns c =
     let a = c .before .before .before .before .args in
     let l = c .before .loop in
-    let f : ℕ → ℕ = λ j. entryAt (unpack (a .bytes .now)) (a .at + 4 * j) in
+    let f : ℕ → ℕ = λ j. entryAt (unpack (a .bytes .now)) (a .at + width (Entry j) * j) in
     l .inv .4 ∙ ap (λ k. places 0 k f) {x = l .i} {y = min (a .m) 16} (omega (arith, l .inv .1)) ∙ places-most 0 f (a .m)
 
 pub chain-at-spec : {M : Type 1} → statement M

@@ -5,8 +5,11 @@ use native.Mathlib.Omega.{arith}
 use Rattle.bits.specs.Bits.{unpack, number}
 use Rattle.bits.specs.Laws.{number-lt}
 use Rattle.theory.specs.Model.Schedule.{none}
+use Rattle.sheet.specs.declared.Field.the-variants.{Length, Entry}
+use Rattle.sheet.specs.Fields.{width}
 use Rattle.sheet.specs.Calls.{places}
-use Rattle.sheet.specs.Order.{taskAt, entryAt}
+use Rattle.sheet.specs.Order.{taskBits, taskAt, entryAt}
+use Rattle.sheet.specs.FormatLaws.{begin}
 use Rattle.sheet.specs.SpeltLaws.{sheet-at}
 use borrow.Author.Needs.{needs}
 use Rattle.sheet.proofs.spell.Statement.{statement}
@@ -40,7 +43,7 @@ cast-m : tie.Need-cast-m
 cast-m c =
     let counted = c .before .before .before .before in
     let bs = unpack (counted .before .before .args .bytes .now) in
-    omega (arith, c .number2 .ensures, number-lt bs (5 + 42 * c .before .wide .result) 5)
+    omega (arith, c .number2 .ensures, number-lt bs (begin (c .before .wide .result)) 5)
 
 add-chain-at : tie.Need-add-chain-at
 add-chain-at c = search needs
@@ -64,9 +67,9 @@ returns c =
     let m : ℕ = at-number-2 .number2 .result in
     let is-wide = at-wide .wide .ensures .0 in
     ap₂ (λ x y. record { tasks = x; chain = y; count = n; length = m })
-    (at-tasks .tasks-at .ensures ∙ ap (λ k. places none k (λ i. taskAt bs (5 + 42 * i))) (at-short .short .ensures .0))
-    (c .chain-at .ensures ∙ ap₂ (λ k w. places 0 k (λ i. entryAt bs (5 + 42 * w + 5 + 4 * i))) (at-short-2 .short2 .ensures .0) is-wide)
-    ∙ sheet-at bs n m (at-number .number .ensures) (at-number-2 .number2 .ensures ∙ ap (λ w. number bs (5 + 42 * w) 5) is-wide)
+    (at-tasks .tasks-at .ensures ∙ ap (λ k. places none k (λ i. taskAt bs (begin 0 + taskBits * i))) (at-short .short .ensures .0))
+    (c .chain-at .ensures ∙ ap₂ (λ k w. places 0 k (λ i. entryAt bs (begin w + width Length + width (Entry i) * i))) (at-short-2 .short2 .ensures .0) is-wide)
+    ∙ sheet-at bs n m (at-number .number .ensures) (at-number-2 .number2 .ensures ∙ ap (λ w. number bs (begin w) 5) is-wide)
 
 pub spell-spec : {M : Type 1} → statement M
 spell-spec =

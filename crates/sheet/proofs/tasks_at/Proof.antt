@@ -1,4 +1,4 @@
--- After i turns the first i places are taken, and the next task begins 42 bits further for each of them.
+-- After i turns the first i places are taken, and the next task begins so many tasks further on.
 use mathlib.Core.Path.{_≡_, refl, ap, ap₂, _∙_}
 use Prim.Native.Nat.{ℕ, _+_, _-_, _*_, _≤_, min}
 use native.Mathlib.Omega.{arith}
@@ -7,14 +7,14 @@ use Rattle.bits.specs.Bits.{unpack, listOf}
 use Rattle.theory.specs.declared.Task.{Task}
 use Rattle.theory.specs.Model.Schedule.{none}
 use Rattle.sheet.specs.Calls.{places}
-use Rattle.sheet.specs.Order.{taskAt}
+use Rattle.sheet.specs.Order.{taskBits, taskAt}
 use Rattle.sheet.specs.PlaceLaws.{places-set, places-most}
 use borrow.Author.Needs.{needs}
 use Rattle.sheet.proofs.tasks_at.Statement.{statement}
 use Rattle.sheet.proofs.tasks_at.Tie as tie
 
 abbrev Inv-loop : tie.InvT-loop
-Inv-loop bytes at n tasks₀ end begin₀ i₀ tasks begin i = (i ≤ end) × (end ≡ min n 16) × (at ≤ 50000) × (begin ≡ at + 42 * i) × (tasks ≡ places none i (λ j. taskAt (unpack bytes) (at + 42 * j)))
+Inv-loop bytes at n tasks₀ end begin₀ i₀ tasks begin i = (i ≤ end) × (end ≡ min n 16) × (at ≤ 50000) × (begin ≡ at + taskBits * i) × (tasks ≡ places none i (λ j. taskAt (unpack bytes) (at + taskBits * j)))
 
 abbrev μ-loop : tie.MeasureT-loop
 μ-loop bytes at n tasks₀ end begin₀ i₀ tasks begin i = end - i
@@ -53,7 +53,7 @@ loop-again c =
     let a = turn .before .before .before .args in
     let l = turn .loop in
     let bs = unpack (a .bytes .now) in
-    let f : ℕ → Task = λ j. taskAt bs (a .at + 42 * j) in (
+    let f : ℕ → Task = λ j. taskAt bs (a .at + taskBits * j) in (
       omega arith,
       l .inv .1,
       l .inv .2,
@@ -65,7 +65,7 @@ returns : tie.Need-returns Inv-loop μ-loop
 returns c =
     let a = c .before .before .before .before .args in
     let l = c .before .loop in
-    let f : ℕ → Task = λ j. taskAt (unpack (a .bytes .now)) (a .at + 42 * j) in
+    let f : ℕ → Task = λ j. taskAt (unpack (a .bytes .now)) (a .at + taskBits * j) in
     l .inv .4 ∙ ap (λ k. places none k f) {x = l .i} {y = min (a .n) 16} (omega (arith, l .inv .1)) ∙ places-most none f (a .n)
 
 pub tasks-at-spec : {M : Type 1} → statement M

@@ -18,8 +18,8 @@ use Rattle.sheet.specs.declared.Written.the-variants.{Bytes, No as NoBytes}
 use Rattle.answers.specs.Answers.{Answer, given, after, when, refusal}
 use Rattle.answers.specs.AnswerLaws.{also-fine, also-no, also-given}
 use Rattle.sheet.specs.Calls.{judgeOf, sizeOf, readOf, writeOf}
-use Rattle.sheet.specs.Sound.{judged-sound}
-use Rattle.sheet.specs.Told.{toldSheet, toldBytes}
+use Rattle.sheet.specs.SoundLaws.{judged-sound}
+use Rattle.sheet.specs.Answers.{toldSheet, toldBytes}
 use Rattle.schedule.specs.declared.answer.Responses.{Responses}
 use Rattle.schedule.specs.declared.answer.Responses.the-variants.{Table, No as NoTable}
 use Rattle.schedule.specs.Answer.{tasksOf, toldTotals}

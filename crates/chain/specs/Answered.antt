@@ -19,7 +19,8 @@ use Rattle.sheet.specs.declared.Sheet.{Sheet}
 use Rattle.answers.specs.Answers.{given, when, after}
 use Rattle.answers.specs.AnswerLaws.{when-fine, also-given, after-given}
 use Rattle.sheet.specs.Tasks.{tasksOf, chainOf, firstOf, restOf}
-use Rattle.sheet.specs.Sound.{Sound, judged-sound}
+use Rattle.sheet.specs.Sound.{Sound}
+use Rattle.sheet.specs.SoundLaws.{judged-sound}
 use Rattle.sheet.specs.TaskLaws.{chain-known, chain-most}
 use Rattle.schedule.specs.Answer.{sizesOf, responsesOf, tableAfter}
 use Rattle.schedule.specs.declared.answer.Totals.{Totals}

@@ -22,7 +22,7 @@ use Rattle.theory.specs.Model.Chain.{Chain, worst, worstRelease, bound}
 use Rattle.sheet.specs.declared.Sheet.{Sheet}
 use Rattle.answers.specs.Answers.{Answer, given, refused, Judgement, fine, when, after, also}
 use Rattle.sheet.specs.Calls.{judgeOf}
-use Rattle.sheet.specs.Sound.{judged-sound}
+use Rattle.sheet.specs.SoundLaws.{judged-sound}
 use Rattle.sheet.specs.Tasks.{tasksOf, chainOf, firstOf, restOf}
 use Rattle.sheet.specs.TaskLaws.{sound-proper, chain-known}
 use Rattle.schedule.specs.Answer.{mostTicks, mostJobs, lateTask, lateGreatest, lateness, sizesOf, responsesOf, rows}

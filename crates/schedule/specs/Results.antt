@@ -16,7 +16,7 @@ use Rattle.sheet.specs.declared.Sheet.{Sheet}
 use Rattle.answers.specs.Answers.{Answer, given, refused, fine, when, after, also}
 use Rattle.answers.specs.AnswerLaws.{when-fine, also-given}
 use Rattle.sheet.specs.Calls.{judgeOf}
-use Rattle.sheet.specs.Sound.{judged-sound}
+use Rattle.sheet.specs.SoundLaws.{judged-sound}
 use Rattle.sheet.specs.Tasks.{tasksOf}
 use Rattle.sheet.specs.TaskLaws.{tasks-length, task-allowed, sound-proper}
 use Rattle.schedule.specs.declared.answer.Totals.{Totals}

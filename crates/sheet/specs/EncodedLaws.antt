@@ -2,7 +2,7 @@
 use mathlib.Core.Path.{_≡_, refl, sym, ap, ap₂, _∙_, subst}
 use mathlib.Core.Bool.{Bool, false}
 use mathlib.Core.List.{List, []}
-use Prim.Native.Nat.{ℕ, _+_, _-_, _*_, _^_, _≤_, _<_}
+use Prim.Native.Nat.{ℕ, _+_, _-_, _*_, _^_, _≤_, _<_, min}
 use native.Mathlib.Omega.{arith}
 use native.Mathlib.Decide.{decLt}
 use lib.Dec.{ltb, leb}
@@ -11,70 +11,68 @@ use borrow.Author.Tests.{ltb-false, le-ltb}
 use Rattle.bits.specs.Bits.{bits, unpack, number, bytesFor}
 use Rattle.bits.specs.Laws.{number-lt, number-same, number-zero, zero-number}
 use Rattle.bits.specs.Bytes.{Bytes, bitAt, bytes-same, length-bytesOf, bytesOf-bytes, bitAt-bytesOf}
-use Rattle.theory.specs.declared.Task.{Task}
 use Rattle.theory.specs.Model.Schedule.{none}
 use Rattle.sheet.specs.declared.Sheet.{Sheet}
 use Rattle.sheet.specs.declared.Field.{Field}
 use Rattle.sheet.specs.declared.Field.the-variants.{Count, Rank, Length, Entry}
 use Rattle.answers.specs.Answers.{given, fine, when, also, first}
 use Rattle.answers.specs.AnswerLaws.{when-fine, also-given}
-use Rattle.sheet.specs.Fields.{fields, width, place, value, outside, among, judged}
+use Rattle.sheet.specs.Fields.{Values, fields, width, place, value, outside, among, judged}
 use Rattle.sheet.specs.FieldLaws.{among-same}
-use Rattle.sheet.specs.Calls.{fieldsOf, judgeOf, packed, encoded, RanksFit, cleared, endOf, sizeOf, spelt, taskSpelt, entrySpelt, sheetSpelt, sheetOf, judgedIn, tailOf, readAs, readOf}
-use Rattle.sheet.specs.PlaceLaws.{places-every, places-taken, places-same}
-use Rattle.sheet.specs.EachLaws.{All, Each, all-map, each-all, all-each, first-same, first-fine, all-first}
-use Rattle.sheet.specs.FormatLaws.{fields-in-place, widths-fields, length-bits-of, written-spelt, spelt-written}
+use Rattle.sheet.specs.Calls.{fieldsOf, judgeOf, packed, encoded, endOf, sizeOf, RanksFit, taskBy, sheetBy, cleared, speltIn, countSpelt, lengthSpelt, spelt, sheetOf, judgedIn, tailOf, readAs, readOf}
+use Rattle.sheet.specs.PlaceLaws.{places-every, places-taken}
+use Rattle.sheet.specs.EachLaws.{All, Each, all-map, each-all, all-each, each-map, each-fewer, first-same, first-fine, all-first}
+use Rattle.sheet.specs.FormatLaws.{fields-in-place, place-located, widths-fields, length-bits-of, written-spelt, spelt-written}
+use Rattle.sheet.specs.SpeltLaws.{sheet-same, spelt-counts, spelt-is}
 use Rattle.sheet.specs.RoomLaws.{roomy}
-use Rattle.sheet.specs.Sound.{Sound, judged-sound}
+use Rattle.sheet.specs.Sound.{Sound}
+use Rattle.sheet.specs.SoundLaws.{judged-sound}
 
 pub length-encoded : (s : Sheet) → length (encoded s) ≡ sizeOf s
 length-encoded s = length-bytesOf (packed s) ∙ ap bytesFor (length-bits-of s)
 
 -- ---- fields that hold the same are judged the same
 
-judged-same : (s t : Sheet) (n m : ℕ) → Each (λ f. value s f ≡ value t f) n m → Each (λ f. judged s f ≡ judged t f) n m
-judged-same s t n m v =
+judged-same : (v w : Values) (n m : ℕ) → Each (λ f. v f ≡ w f) n m → Each (λ f. judged v f ≡ judged w f) n m
+judged-same v w n m e =
     record {
-      of-count = ap (λ x. when (outside 1 16 x) 2) (v .of-count);
-      of-period = λ i l. ap (λ x. when (outside 1 100000 x) 3) (v .of-period i l);
-      of-budget = λ i l. ap₂ (λ x y. when (outside 1 x y) 4) (v .of-period i l) (v .of-budget i l);
-      of-rank = λ i l. ap (λ b. when b 5) (fresh (λ j. value s (Rank j)) (λ j. value t (Rank j)) n i l (v .of-rank));
-      of-length = ap₂ (λ x y. when (outside 1 x y) 6) (v .of-count) (v .of-length);
+      of-count = ap (λ x. when (outside 1 16 x) 2) (e .of-count);
+      of-period = λ i l. ap (λ x. when (outside 1 100000 x) 3) (e .of-period i l);
+      of-budget = λ i l. ap₂ (λ x y. when (outside 1 x y) 4) (e .of-period i l) (e .of-budget i l);
+      of-rank = λ i l. ap (λ b. when b 5) (fresh (λ j. v (Rank j)) (λ j. w (Rank j)) n i l (e .of-rank));
+      of-length = ap₂ (λ x y. when (outside 1 x y) 6) (e .of-count) (e .of-length);
       of-entry =
-          λ i l. ap₂ (λ x b. also (when x 7) (when b 8)) (ap₂ leb (v .of-count) (v .of-entry i l))
-          (fresh (λ j. value s (Entry j)) (λ j. value t (Entry j)) m i l (v .of-entry));
+          λ i l. ap₂ (λ x b. also (when x 7) (when b 8)) (ap₂ leb (e .of-count) (e .of-entry i l))
+          (fresh (λ j. v (Entry j)) (λ j. w (Entry j)) m i l (e .of-entry));
     }
   where
     fresh : (f g : ℕ → ℕ) (k i : ℕ) → i < k → ((j : ℕ) → j < k → f j ≡ g j) → among f i (f i) ≡ among g i (g i)
     fresh f g k i l h = ap (among f i) (h i l) ∙ among-same f g i (g i) (λ j q. h j (omega arith))
 
+-- the sheet of some values holds them
+sheet-holds : (v : Values) → v Count ≤ 16 → v Length ≤ 16 → Each (λ f. value (sheetBy v) f ≡ v f) (v Count) (v Length)
+sheet-holds v n m =
+    record {
+      of-count = refl;
+      of-period = λ i l. ap (λ t. t .period) (task i l);
+      of-budget = λ i l. ap (λ t. t .budget) (task i l);
+      of-rank = λ i l. ap (λ t. t .rank) (task i l);
+      of-length = refl;
+      of-entry = λ i l. places-taken 0 (λ j. v (Entry j)) (v Length) i l (omega arith);
+    }
+  where
+    task : (i : ℕ) → i < v Count → getD (sheetBy v .tasks) i none ≡ taskBy v i
+    task i l = places-taken none (taskBy v) (v Count) i l (omega arith)
+
 -- ---- written, then read
 
-task-same : {t : Task} {p b r : ℕ} → p ≡ t .period → b ≡ t .budget → r ≡ t .rank → record { period = p; budget = b; rank = r } ≡ t
-task-same {t} {p} {b} {r} x y z =
-    ap₂ (λ p b. record { period = p; budget = b; rank = r }) x y ∙ ap (λ r. record { period = t .period; budget = t .budget; rank = r }) z
-
 module _ (s : Sheet) (sound : Sound s) where
-  -- the places in use are the same
-  cleared-value : Each (λ f. value (cleared s) f ≡ value s f) (s .count) (s .length)
-  cleared-value =
-      record {
-        of-count = refl;
-        of-period = λ i l. ap (λ t. t .period) (task i l);
-        of-budget = λ i l. ap (λ t. t .budget) (task i l);
-        of-rank = λ i l. ap (λ t. t .rank) (task i l);
-        of-length = refl;
-        of-entry = λ i l. places-taken 0 (λ j. getD (s .chain) j 0) (s .length) i l (omega (arith, sound .length-most, sound .count-most));
-      }
-    where
-      task : (i : ℕ) → i < s .count → getD (cleared s .tasks) i none ≡ getD (s .tasks) i none
-      task i l = places-taken none (λ j. getD (s .tasks) j none) (s .count) i l (omega (arith, sound .count-most))
-
   cleared-judge : judgeOf (cleared s) ≡ judgeOf s
   unfolding judgeOf
   cleared-judge =
-      first-same (judged (cleared s)) (judged s) (fieldsOf s)
-      (each-all (λ f. judged (cleared s) f ≡ judged s f) (judged-same (cleared s) s (s .count) (s .length) cleared-value))
+      first-same (judged (value (cleared s))) (judged (value s)) (fieldsOf s)
+      (each-all (λ f. judged (value (cleared s)) f ≡ judged (value s) f)
+      (judged-same (value (cleared s)) (value s) (s .count) (s .length) (sheet-holds (value s) (sound .count-most) (omega (arith, sound .count-most, sound .length-most)))))
 
   -- every value fits its field
   values-fit : RanksFit s → Each (λ f. value s f < 2 ^ width f) (s .count) (s .length)
@@ -89,27 +87,25 @@ module _ (s : Sheet) (sound : Sound s) where
       }
 
 module _ (s : Sheet) (sound : Sound s) (ranks : RanksFit s) where
+  abbrev place-of : Field → ℕ
+  place-of = place (fieldsOf s)
+
   -- what its bytes spell is what it holds
-  encoded-spelt : Each (λ f. spelt (unpack (encoded s)) (s .count) f ≡ value s f) (s .count) (s .length)
+  encoded-spelt : Each (λ f. speltIn (unpack (encoded s)) (fieldsOf s) f ≡ value s f) (s .count) (s .length)
   encoded-spelt =
-      all-each (λ f. spelt (unpack (encoded s)) (s .count) f ≡ value s f)
-      (all-map (λ f. number (packed s) (place (s .count) f) (width f) ≡ value s f) (λ f. spelt (unpack (encoded s)) (s .count) f ≡ value s f) (fieldsOf s)
-      (λ f e. number-same (unpack (encoded s)) (packed s) (place (s .count) f) (place (s .count) f) (width f) (λ k l. bitAt-bytesOf (packed s) (place (s .count) f + k)) ∙ e)
-      (written-spelt s (s .count) (fieldsOf s) [] (fields-in-place (s .count) (s .length)) (each-all (λ f. value s f < 2 ^ width f) (values-fit s sound ranks))))
+      all-each (λ f. speltIn (unpack (encoded s)) (fieldsOf s) f ≡ value s f)
+      (all-map (λ f. speltIn (packed s) (fieldsOf s) f ≡ value s f) (λ f. speltIn (unpack (encoded s)) (fieldsOf s) f ≡ value s f) (fieldsOf s)
+      (λ f e. number-same (unpack (encoded s)) (packed s) (place-of f) (place-of f) (width f) (λ k l. bitAt-bytesOf (packed s) (place-of f + k)) ∙ e)
+      (written-spelt (value s) place-of (fieldsOf s) [] (fields-in-place (s .count) (s .length)) (each-all (λ f. value s f < 2 ^ width f) (values-fit s sound ranks))))
 
   encoded-sheet : sheetOf (unpack (encoded s)) ≡ cleared s
-  unfolding sheetOf
   encoded-sheet =
-      ap₂ (sheetSpelt bs) (e .of-count) (ap (λ n. spelt bs n Length) (e .of-count) ∙ e .of-length)
-      ∙ ap₂ (λ x y. record { tasks = x; chain = y; count = s .count; length = s .length })
-      (places-same none (s .count) (taskSpelt bs (s .count)) (λ i. getD (s .tasks) i none) (λ i l g. task-same (e .of-period i l) (e .of-budget i l) (e .of-rank i l)))
-      (places-same 0 (s .length) (entrySpelt bs (s .count)) (λ i. getD (s .chain) i 0) (λ i l g. e .of-entry i l))
-    where
-      bs : List Bool
-      bs = unpack (encoded s)
-
-      e : Each (λ f. spelt bs (s .count) f ≡ value s f) (s .count) (s .length)
-      e = encoded-spelt
+      let bs = unpack (encoded s) in
+      let e = encoded-spelt in
+      ap sheetBy (spelt-is bs (s .count) (s .length) (e .of-count) (e .of-length))
+      ∙ sym (sheet-same (value s) (speltIn bs (fieldsOf s))
+      (each-fewer (λ f. value s f ≡ speltIn bs (fieldsOf s) f) (min (s .count) 16) (min (s .length) 16) (omega arith) (omega arith)
+      (each-map (λ f. speltIn bs (fieldsOf s) f ≡ value s f) (λ f. value s f ≡ speltIn bs (fieldsOf s) f) (s .count) (s .length) (λ f h. sym h) e)))
 
   encoded-tail : tailOf (encoded s) (endOf s) ≡ fine
   encoded-tail =
@@ -126,7 +122,7 @@ module _ (s : Sheet) (sound : Sound s) (ranks : RanksFit s) where
 
 -- what was judged of the bytes, with the sheet s that they spell
 record Accepted (bytes : List ℕ) (s : Sheet) : Type 0 where
-  inside : Each (λ f. place (s .count) f + width f ≤ length bytes * 8) (s .count) (s .length)
+  inside : Each (λ f. place (fieldsOf s) f + width f ≤ length bytes * 8) (s .count) (s .length)
   judged-fine : judgeOf s ≡ fine
   last-byte : length bytes ≤ sizeOf s
   zeros : number (unpack bytes) (endOf s) (sizeOf s * 8 - endOf s) ≡ 0
@@ -136,8 +132,8 @@ accepted : (bytes : List ℕ) (s : Sheet) → readOf bytes ≡ given s → Accep
 unfolding readOf judgeOf
 accepted bytes s e =
     record {
-      inside = all-each (λ f. place (s .count) f + width f ≤ room) (all-map fits (λ f. place (s .count) f + width f ≤ room) (fieldsOf s) (λ f h. ltb-false room (place (s .count) f + width f) (when-fine _ 1 (both f h .0))) each);
-      judged-fine = all-first (judged s) (fieldsOf s) (all-map fits (λ f. judged s f ≡ fine) (fieldsOf s) (λ f h. both f h .1) each);
+      inside = all-each (λ f. place (fieldsOf s) f + width f ≤ room) (all-map fits (λ f. place (fieldsOf s) f + width f ≤ room) (fieldsOf s) (λ f h. ltb-false room (place (fieldsOf s) f + width f) (when-fine _ 1 (both f h .0))) each);
+      judged-fine = all-first (judged (value s)) (fieldsOf s) (all-map fits (λ f. judged (value s) f ≡ fine) (fieldsOf s) (λ f h. both f h .1) each);
       last-byte = ltb-false (sizeOf s) (length bytes) (when-fine _ 9 (tail .0));
       zeros = omega (arith, ltb-false 0 (number (unpack bytes) (endOf s) (sizeOf s * 8 - endOf s)) (when-fine _ 9 (tail .1)));
       is = same;
@@ -167,26 +163,11 @@ accepted bytes s e =
     each : All fits (fieldsOf s)
     each = first-fine (judgedIn room s) (fieldsOf s) (parts .0)
 
-    both : (f : Field) → judgedIn room s f ≡ fine → (when (ltb room (place (s .count) f + width f)) 1 ≡ fine) × (judged s f ≡ fine)
-    both f h = also-given (when (ltb room (place (s .count) f + width f)) 1) (judged s f) h
+    both : (f : Field) → judgedIn room s f ≡ fine → (when (ltb room (place (fieldsOf s) f + width f)) 1 ≡ fine) × (judged (value s) f ≡ fine)
+    both f h = also-given (when (ltb room (place (fieldsOf s) f + width f)) 1) (judged (value s) f) h
 
     tail : (when (ltb (sizeOf s) (length bytes)) 9 ≡ fine) × (when (ltb 0 (number (unpack bytes) (endOf s) (sizeOf s * 8 - endOf s))) 9 ≡ fine)
     tail = also-given (when (ltb (sizeOf s) (length bytes)) 9) _ (also-given (tailOf bytes (endOf s)) (given s) (parts .1) .0)
-
--- the sheet that bits spell holds what they spell
-spelt-held : (bs : List Bool) (n m : ℕ) → n ≤ 16 → m ≤ 16 → spelt bs 0 Count ≡ n → spelt bs n Length ≡ m → Each (λ f. spelt bs n f ≡ value (sheetSpelt bs n m) f) n m
-spelt-held bs n m hn hm en em =
-    record {
-      of-count = en;
-      of-period = λ i l. ap (λ t. t .period) (task i l);
-      of-budget = λ i l. ap (λ t. t .budget) (task i l);
-      of-rank = λ i l. ap (λ t. t .rank) (task i l);
-      of-length = em;
-      of-entry = λ i l. sym (places-taken 0 (entrySpelt bs n) m i l (omega arith));
-    }
-  where
-    task : (i : ℕ) → i < n → taskSpelt bs n i ≡ getD (sheetSpelt bs n m .tasks) i none
-    task i l = sym (places-taken none (taskSpelt bs n) n i l (omega arith))
 
 module _ (bytes : List ℕ) (s : Sheet) (ok : Accepted bytes s) where
   abbrev bs : List Bool
@@ -195,22 +176,29 @@ module _ (bytes : List ℕ) (s : Sheet) (ok : Accepted bytes s) where
   sound : Sound s
   sound = judged-sound s (ok .judged-fine)
 
-  spelt-value : Each (λ f. spelt (unpack bytes) (s .count) f ≡ value s f) (s .count) (s .length)
-  unfolding sheetOf
+  -- the sheet holds what the bits spell
+  spelt-value : Each (λ f. speltIn bs (fieldsOf s) f ≡ value s f) (s .count) (s .length)
+  unfolding spelt
   spelt-value =
-      let n = spelt bs 0 Count in
-      subst (λ x. Each (λ f. spelt bs (x .count) f ≡ value x f) (x .count) (x .length)) (sym (ok .is))
-      (spelt-held bs n (spelt bs n Length) (omega (arith, sound, ap (λ x. x .count) (ok .is))) (omega (arith, sound, ap (λ x. x .length) (ok .is))) refl refl)
+      let v = spelt bs in
+      let c = spelt-counts bs in
+      let same : speltIn bs (fields (v Count) (v Length)) ≡ v = ap₂ (λ n m. speltIn bs (fields n m)) (c .0) (c .1) in
+      subst (λ x. Each (λ f. speltIn bs (fieldsOf x) f ≡ value x f) (x .count) (x .length)) (sym (ok .is))
+      (each-map (λ f. value (sheetBy v) f ≡ v f) (λ f. speltIn bs (fields (v Count) (v Length)) f ≡ value (sheetBy v) f) (v Count) (v Length)
+      (λ f e. ap (λ g. g f) same ∙ sym e)
+      (sheet-holds v (omega (arith, sound, ap (λ x. x .count) (ok .is))) (omega (arith, sound, ap (λ x. x .length) (ok .is)))))
 
   size-is : length bytes ≡ sizeOf s
-  size-is = omega (arith, sound, ok .last-byte, ok .inside .of-entry (s .length - 1) (omega (arith, sound)))
+  size-is =
+      let last = ok .inside .of-entry (s .length - 1) (omega (arith, sound)) in
+      omega (arith, sound, ok .last-byte, last, place-located (s .count) (s .length) .of-entry (s .length - 1) (omega (arith, sound)), widths-fields (s .count) (s .length))
 
   bits-are : (p : ℕ) → p < length bytes * 8 → getD (packed s) p false ≡ bitAt bytes p
   bits-are p l = go (decLt p (endOf s))
     where
       go : Dec (p < endOf s) → getD (packed s) p false ≡ bitAt bytes p
       go (yes h) =
-          spelt-written s (s .count) bs (fieldsOf s) 0 (fields-in-place (s .count) (s .length)) (each-all (λ f. spelt bs (s .count) f ≡ value s f) spelt-value) p (omega (arith, widths-fields (s .count) (s .length)))
+          spelt-written (value s) (place (fieldsOf s)) bs (fieldsOf s) 0 (fields-in-place (s .count) (s .length)) (each-all (λ f. speltIn bs (fieldsOf s) f ≡ value s f) spelt-value) p h
           ∙ ap (bitAt bytes) {x = 0 + p} {y = p} (omega arith)
       go (no h) =
           List·getD-eq-default (packed s) false (omega (arith, length-bits-of s))
@@ -234,12 +222,12 @@ read-encoded bytes s fit e =
 
 -- A sheet that is read would be judged fine.
 pub read-judged : (bytes : List ℕ) (s : Sheet) → readOf bytes ≡ given s → (judgeOf s ≡ fine) × RanksFit s
-unfolding sheetOf
+unfolding spelt
 read-judged bytes s e =
     let ok = accepted bytes s e in
     let bs = unpack bytes in
-    let n = spelt bs 0 Count in (
+    let v = spelt bs in
+    let fs = fields (countSpelt bs) (lengthSpelt bs) in (
       ok .judged-fine,
-      λ i. subst (λ x. value x (Rank i) < 256) (sym (ok .is))
-          (places-every none (taskSpelt bs n) (λ t. t .rank < 256) n (omega arith) (λ j. number-lt bs (place n (Rank j)) 8) i),
+      λ i. subst (λ x. value x (Rank i) < 256) (sym (ok .is)) (places-every none (taskBy v) (λ t. t .rank < 256) (v Count) (omega arith) (λ j. number-lt bs (place fs (Rank j)) 8) i),
     )

@@ -1,4 +1,4 @@
--- The numbers of refusal: the least and the greatest that an answer may have, kept by each way to put judgements together.
+-- The numbers of refusal that each call may give.
 use mathlib.Core.List.{List}
 use Prim.Native.Nat.{ℕ, _+_, _-_, _*_}
 use native.Mathlib.Omega.{arith}
@@ -9,23 +9,23 @@ use Rattle.sheet.specs.declared.Sheet.{Sheet}
 use Rattle.sheet.specs.declared.Field.{Field}
 use Rattle.sheet.specs.declared.Field.the-variants.{Count, Period, Budget, Rank, Length, Entry}
 use Rattle.answers.specs.NumberLaws.{Numbered, given-numbered, numbered-wider, when-numbered, also-numbered, first-numbered}
-use Rattle.sheet.specs.Fields.{width, place, value, outside, among, judged}
+use Rattle.sheet.specs.Fields.{Values, width, place, value, outside, among, judged}
 use Rattle.sheet.specs.Calls.{fieldsOf, judgeOf, endOf, sizeOf, writeOf, sheetOf, judgedIn, tailOf, readAs, readOf}
 
-judged-numbered : (s : Sheet) (f : Field) → Numbered 2 8 (judged s f)
-judged-numbered s Count = when-numbered (outside 1 16 (value s Count)) 2 (omega arith) (omega arith)
-judged-numbered s (Period i) = when-numbered (outside 1 100000 (value s (Period i))) 3 (omega arith) (omega arith)
-judged-numbered s (Budget i) = when-numbered (outside 1 (value s (Period i)) (value s (Budget i))) 4 (omega arith) (omega arith)
-judged-numbered s (Rank i) = when-numbered (among (λ j. value s (Rank j)) i (value s (Rank i))) 5 (omega arith) (omega arith)
-judged-numbered s Length = when-numbered (outside 1 (value s Count) (value s Length)) 6 (omega arith) (omega arith)
-judged-numbered s (Entry i) =
-    also-numbered (when-numbered (leb (value s Count) (value s (Entry i))) 7 (omega arith) (omega arith))
-    (when-numbered (among (λ j. value s (Entry j)) i (value s (Entry i))) 8 (omega arith) (omega arith))
+judged-numbered : (v : Values) (f : Field) → Numbered 2 8 (judged v f)
+judged-numbered v Count = when-numbered (outside 1 16 (v Count)) 2 (omega arith) (omega arith)
+judged-numbered v (Period i) = when-numbered (outside 1 100000 (v (Period i))) 3 (omega arith) (omega arith)
+judged-numbered v (Budget i) = when-numbered (outside 1 (v (Period i)) (v (Budget i))) 4 (omega arith) (omega arith)
+judged-numbered v (Rank i) = when-numbered (among (λ j. v (Rank j)) i (v (Rank i))) 5 (omega arith) (omega arith)
+judged-numbered v Length = when-numbered (outside 1 (v Count) (v Length)) 6 (omega arith) (omega arith)
+judged-numbered v (Entry i) =
+    also-numbered (when-numbered (leb (v Count) (v (Entry i))) 7 (omega arith) (omega arith))
+    (when-numbered (among (λ j. v (Entry j)) i (v (Entry i))) 8 (omega arith) (omega arith))
 
 -- "A sheet handed over in memory is judged for 2 to 8".
 pub judge-numbered : (s : Sheet) → Numbered 2 8 (judgeOf s)
 unfolding judgeOf
-judge-numbered s = first-numbered (fieldsOf s) (judged-numbered s)
+judge-numbered s = first-numbered (fieldsOf s) (judged-numbered (value s))
 
 -- "the writer judges 2 to 8 and then 14 only"
 pub write-numbered : (s : Sheet) (room : ℕ) → Numbered 2 14 (writeOf s room)
@@ -36,8 +36,8 @@ write-numbered s room =
 
 judged-in-numbered : (room : ℕ) (s : Sheet) (f : Field) → Numbered 1 9 (judgedIn room s f)
 judged-in-numbered room s f =
-    also-numbered (when-numbered (ltb room (place (s .count) f + width f)) 1 (omega arith) (omega arith))
-    (numbered-wider (judged-numbered s f) (omega arith) (omega arith))
+    also-numbered (when-numbered (ltb room (place (fieldsOf s) f + width f)) 1 (omega arith) (omega arith))
+    (numbered-wider (judged-numbered (value s) f) (omega arith) (omega arith))
 
 tail-numbered : (bytes : List ℕ) (end : ℕ) → Numbered 1 9 (tailOf bytes end)
 tail-numbered bytes end =

@@ -10,16 +10,16 @@ use Rattle.sheet.specs.declared.Sheet.{Sheet}
 use Rattle.sheet.specs.declared.Reading.{Reading}
 use Rattle.sheet.specs.declared.Written.{Written}
 use Rattle.sheet.specs.Calls.{judgeOf, readOf, writeOf, bufferAfter}
-use Rattle.sheet.specs.Told.{toldSheet, toldBytes, sheetIn, noBytes}
+use Rattle.sheet.specs.Answers.{toldSheet, toldBytes, sheetIn, noBytes}
 
-abbrev pub Judge : Sheet → Verdict → Type 0
-Judge s v = told v ≡ judgeOf s
+abbrev pub JudgePromise : Sheet → Verdict → Type 0
+JudgePromise s v = told v ≡ judgeOf s
 
-abbrev pub Read : List ℕ → Reading → Type 0
-Read bytes r = (toldSheet r ≡ readOf bytes) × (r .sheet ≡ sheetIn (readOf bytes))
+abbrev pub ReadPromise : List ℕ → Reading → Type 0
+ReadPromise bytes r = (toldSheet r ≡ readOf bytes) × (r .sheet ≡ sheetIn (readOf bytes))
 
-abbrev pub Write : Sheet → List ℕ → Written → List ℕ → Type 0
-Write s old w new = (toldBytes w ≡ writeOf s (length old)) × (new ≡ bufferAfter (toldBytes w) s old)
+abbrev pub WritePromise : Sheet → List ℕ → Written → List ℕ → Type 0
+WritePromise s old w new = (toldBytes w ≡ writeOf s (length old)) × (new ≡ bufferAfter (toldBytes w) s old)
 
-abbrev pub WrittenRefusal : Written → Refusal → Type 0
-WrittenRefusal w r = r ≡ noBytes w
+abbrev pub WrittenRefusalPromise : Written → Refusal → Type 0
+WrittenRefusalPromise w r = r ≡ noBytes w

@@ -18,13 +18,14 @@ use Rattle.sheet.specs.declared.Sheet.{Sheet}
 use Rattle.sheet.specs.declared.Reading.{Reading}
 use Rattle.sheet.specs.declared.Written.{Written}
 use Rattle.sheet.specs.declared.Written.the-variants.{Bytes}
-use Rattle.sheet.specs.Calls.{judgeOf, packed, encoded, sizeOf, writeOf, bufferAfter, RanksFit, cleared, readOf}
-use Rattle.sheet.specs.Told.{toldBytes, sheetIn}
-use Rattle.sheet.specs.Promises.{Read, Write}
+use Rattle.sheet.specs.Calls.{judgeOf, packed, encoded, sizeOf, writeOf, bufferAfter, RanksFit, taskBy, cleared, readOf}
+use Rattle.sheet.specs.Fields.{value}
+use Rattle.sheet.specs.Answers.{toldBytes, sheetIn}
+use Rattle.sheet.specs.Promises.{ReadPromise, WritePromise}
 use Rattle.sheet.specs.AnswerLaws.{given-fine, bytes-told}
-use Rattle.sheet.specs.FormatLaws.{length-bits-of}
+use Rattle.sheet.specs.FormatLaws.{widths-fields, length-bits-of}
 use Rattle.sheet.specs.PlaceLaws.{places-taken}
-use Rattle.sheet.specs.Sound.{judged-sound}
+use Rattle.sheet.specs.SoundLaws.{judged-sound}
 use Rattle.sheet.specs.EncodedLaws.{length-encoded, encoded-read, read-encoded, read-judged}
 
 -- "the same counts, tasks and chain"
@@ -59,14 +60,14 @@ cleared-same s e =
     record {
       count = refl;
       length = refl;
-      tasks = λ i l. sym (places-taken none (λ j. getD (s .tasks) j none) (s .count) i l (omega (arith, sound .count-most)));
+      tasks = λ i l. sym (places-taken none (taskBy (value s)) (s .count) i l (omega (arith, sound .count-most)));
       chain = λ i l. sym (places-taken 0 (λ j. getD (s .chain) j 0) (s .length) i l (omega (arith, sound .length-most, sound .count-most)));
     }
 
 -- ---- the theorems
 
 -- "Writing a sheet and reading it gives the same counts, tasks and chain", the unused places zero.
-pub write-read : (s : Sheet) (old new : List ℕ) (n : ℕ) (x : Reading) → RanksFit s → Write s old (Bytes n) new → Read (take n new) x
+pub write-read : (s : Sheet) (old new : List ℕ) (n : ℕ) (x : Reading) → RanksFit s → WritePromise s old (Bytes n) new → ReadPromise (take n new) x
     → (x .verdict ≡ Fine) × (x .sheet ≡ cleared s) × Same s (x .sheet)
 write-read s old new n x ranks w r =
     let f = written-fine s (length old) n (sym (w .0)) in
@@ -77,7 +78,7 @@ write-read s old new n x ranks w r =
     (given-fine (x .verdict) (x .sheet) (r .0 ∙ e), same, subst (Same s) (sym same) (cleared-same s (f .0)))
 
 -- "Reading accepted bytes and writing gives the same bytes", and the rest of the buffer as it was.
-pub read-write : (bytes old new : List ℕ) (x : Reading) (w : Written) → AreBytes bytes → Read bytes x → x .verdict ≡ Fine → Write (x .sheet) old w new
+pub read-write : (bytes old new : List ℕ) (x : Reading) (w : Written) → AreBytes bytes → ReadPromise bytes x → x .verdict ≡ Fine → WritePromise (x .sheet) old w new
     → length bytes ≤ length old → (w ≡ Bytes (length bytes)) × (new ≡ bytes ++ drop (length bytes) old)
 read-write bytes old new x w fit r f h room =
     let s = x .sheet in
@@ -99,4 +100,14 @@ accepted-exactly bytes fit = (
 
 -- "A sheet is 7 to 94 bytes."
 pub size-range : (s : Sheet) → judgeOf s ≡ fine → (7 ≤ length (encoded s)) × (length (encoded s) ≤ 94)
-size-range s e = let sound = judged-sound s e in (omega (arith, length-encoded s, sound), omega (arith, length-encoded s, sound))
+size-range s e =
+    let sound = judged-sound s e in
+    let end = widths-fields (s .count) (s .length) in
+    (omega (arith, length-encoded s, end, sound), omega (arith, length-encoded s, end, sound))
+
+-- and so many are written
+pub written-range : (s : Sheet) (room n : ℕ) → writeOf s room ≡ given n → (7 ≤ n) × (n ≤ 94)
+written-range s room n e =
+    let f = written-fine s room n e in
+    let r = size-range s (f .0) in
+    (omega (arith, r .0, f .1, length-encoded s), omega (arith, r .1, f .1, length-encoded s))

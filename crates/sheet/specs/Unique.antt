@@ -12,13 +12,13 @@ use Rattle.sheet.specs.declared.Reading.{Reading}
 use Rattle.sheet.specs.declared.Written.{Written}
 use Rattle.sheet.specs.declared.Written.the-variants.{Bytes, No as NoBytes}
 use Rattle.sheet.specs.Calls.{bufferAfter}
-use Rattle.sheet.specs.Told.{toldBytes}
-use Rattle.sheet.specs.Promises.{Judge, Read, Write, WrittenRefusal}
+use Rattle.sheet.specs.Answers.{toldBytes}
+use Rattle.sheet.specs.Promises.{JudgePromise, ReadPromise, WritePromise, WrittenRefusalPromise}
 
-pub judge-unique : (s : Sheet) (v w : Verdict) → Judge s v → Judge s w → v ≡ w
+pub judge-unique : (s : Sheet) (v w : Verdict) → JudgePromise s v → JudgePromise s w → v ≡ w
 judge-unique s v w h g = told-unique v w (h ∙ sym g)
 
-pub read-unique : (bytes : List ℕ) (x y : Reading) → Read bytes x → Read bytes y → x ≡ y
+pub read-unique : (bytes : List ℕ) (x y : Reading) → ReadPromise bytes x → ReadPromise bytes y → x ≡ y
 read-unique bytes x y h g =
     ap₂ (λ v s. record { verdict = v; sheet = s }) (verdict (x .verdict) (y .verdict) (h .0 ∙ sym (g .0))) (h .1 ∙ sym (g .1))
   where
@@ -34,10 +34,10 @@ toldBytes-unique (Bytes m) (NoBytes q) e = refused-given (sym e)
 toldBytes-unique (NoBytes r) (Bytes n) e = refused-given e
 toldBytes-unique (NoBytes r) (NoBytes q) e = ap NoBytes (refusal-unique r q e)
 
-pub write-unique : (s : Sheet) (old new other : List ℕ) (v w : Written) → Write s old v new → Write s old w other → (v ≡ w) × (new ≡ other)
+pub write-unique : (s : Sheet) (old new other : List ℕ) (v w : Written) → WritePromise s old v new → WritePromise s old w other → (v ≡ w) × (new ≡ other)
 write-unique s old new other v w h g =
     let e : v ≡ w = toldBytes-unique v w (h .0 ∙ sym (g .0)) in
     (e, h .1 ∙ ap (λ x. bufferAfter (toldBytes x) s old) e ∙ sym (g .1))
 
-pub written-refusal-unique : (w : Written) (r q : Refusal) → WrittenRefusal w r → WrittenRefusal w q → r ≡ q
+pub written-refusal-unique : (w : Written) (r q : Refusal) → WrittenRefusalPromise w r → WrittenRefusalPromise w q → r ≡ q
 written-refusal-unique w r q h g = h ∙ sym g

@@ -7,7 +7,8 @@ use borrow.Author.Needs.{needs}
 use Rattle.theory.specs.Model.Schedule.{period}
 use Rattle.theory.specs.Model.Responses.{hyperperiod}
 use Rattle.answers.specs.Answers.{given, after, refusal}
-use Rattle.sheet.specs.Sound.{Sound, judged-sound}
+use Rattle.sheet.specs.Sound.{Sound}
+use Rattle.sheet.specs.SoundLaws.{judged-sound}
 use Rattle.theory.specs.Analysis.ChainLaws.{chain-head}
 use Rattle.sheet.specs.TaskLaws.{chain-known}
 use Rattle.sheet.specs.Tasks.{tasksOf, chainOf, firstOf, restOf}

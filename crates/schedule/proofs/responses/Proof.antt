@@ -3,7 +3,8 @@ use Rattle.theory.specs.Model.Responses.{allJobs}
 use mathlib.Core.Path.{_≡_, sym, ap, _∙_, subst}
 use native.Mathlib.Omega.{arith}
 use Rattle.answers.specs.Answers.{given, refusal}
-use Rattle.sheet.specs.Sound.{Sound, judged-sound}
+use Rattle.sheet.specs.Sound.{Sound}
+use Rattle.sheet.specs.SoundLaws.{judged-sound}
 use Rattle.sheet.specs.Tasks.{tasksOf}
 use Rattle.schedule.specs.Answer.{sizesOf, toldSize, sizesRefusal}
 use Rattle.schedule.specs.Cases.{sizes-given}

@@ -6,7 +6,8 @@ use Rattle.answers.specs.declared.Verdict.the-variants.{Fine}
 use Rattle.answers.specs.Answers.{given, fine, refusal, told}
 use Rattle.answers.specs.AnswerLaws.{refusal-is}
 use Rattle.sheet.specs.Calls.{judgeOf}
-use Rattle.sheet.specs.Sound.{Sound, judged-sound}
+use Rattle.sheet.specs.Sound.{Sound}
+use Rattle.sheet.specs.SoundLaws.{judged-sound}
 use Rattle.schedule.specs.Cases.{sizes-refused, sizes-over, sizes-many, sizes-fit}
 use Rattle.schedule.specs.Answer.{mostTicks}
 use borrow.Author.Needs.{needs}

@@ -6,7 +6,7 @@ use Rattle.bits.specs.Bits.{listOf}
 use Rattle.sheet.specs.declared.Sheet.{Sheet}
 use Rattle.answers.specs.declared.Refusal.{Refusal}
 use Rattle.answers.specs.Answers.{refusal}
-use Rattle.sheet.specs.Sound.{judged-sound}
+use Rattle.sheet.specs.SoundLaws.{judged-sound}
 use Rattle.schedule.specs.Answer.{greatestAfter, toldTotals}
 use Rattle.schedule.specs.Results.{responses-given, filled-holds}
 use borrow.Author.Needs.{needs}

@@ -4,7 +4,7 @@ use Prim.Native.Nat.{_-_, _≤_}
 use native.Mathlib.Omega.{arith}
 use Rattle.answers.specs.Answers.{when}
 use Rattle.sheet.specs.Fields.{among}
-use Rattle.sheet.specs.Steps.{nth}
+use Rattle.sheet.specs.Order.{nth}
 use Rattle.sheet.specs.FieldLaws.{among-here, among-past, among-none}
 use borrow.Author.Needs.{needs}
 use Rattle.sheet.proofs.fresh.Statement.{statement}
@@ -30,20 +30,26 @@ nth-of-requires-2 c κs = search needs
 
 returns : tie.Need-returns Inv-loop μ-loop
 returns c =
-    let a = c .before .before .before .before .before .before .args in
-    let l = c .before .before .before .loop in
-    let v = c .before .before .before .before .nth-of .result in
-    sym (ap (λ b. when b (a .number)) (l .inv .1 ∙ among-here (nth (a .values .now)) (l .j) v (omega arith) (sym (c .before .nth-of2 .ensures) ∙ omega arith)))
+    let at-nth-of-2 = c .before in
+    let turn = at-nth-of-2 .before .before in
+    let at-nth-of = turn .before in
+    let a = at-nth-of .before .before .args in
+    let l = turn .loop in
+    let v = at-nth-of .nth-of .result in
+    sym (ap (λ b. when b (a .number)) (l .inv .1 ∙ among-here (nth (a .values .now)) (l .j) v (omega arith) (sym (at-nth-of-2 .nth-of2 .ensures) ∙ omega arith)))
 
 loop-less : tie.Need-loop-less Inv-loop μ-loop
 loop-less c = search needs
 
 loop-again : tie.Need-loop-again Inv-loop μ-loop
 loop-again c =
-    let a = c .before .before .before .before .before .before .args in
-    let l = c .before .before .before .loop in
-    let v = c .before .before .before .before .nth-of .result in
-    (omega arith, l .inv .1 ∙ among-past (nth (a .values .now)) (l .j) v (omega arith) (λ e. omega (arith, c .before .nth-of2 .ensures)))
+    let at-nth-of-2 = c .before in
+    let turn = at-nth-of-2 .before .before in
+    let at-nth-of = turn .before in
+    let a = at-nth-of .before .before .args in
+    let l = turn .loop in
+    let v = at-nth-of .nth-of .result in
+    (omega arith, l .inv .1 ∙ among-past (nth (a .values .now)) (l .j) v (omega arith) (λ e. omega (arith, at-nth-of-2 .nth-of2 .ensures)))
 
 returns-2 : tie.Need-returns-2 Inv-loop μ-loop
 returns-2 c =

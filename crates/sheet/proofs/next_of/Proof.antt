@@ -1,7 +1,8 @@
 -- The arms are the definition's, and an index below the width's top has a next.
 use mathlib.Core.Path.{sym, ap, _∙_}
 use native.Mathlib.Omega.{arith}
-use Rattle.sheet.specs.Steps.{next, index}
+use Rattle.sheet.specs.Order.{next}
+use Rattle.sheet.specs.Fields.{index}
 use borrow.Author.Needs.{needs}
 use Rattle.sheet.proofs.next_of.Statement.{statement}
 use Rattle.sheet.proofs.next_of.Tie as tie

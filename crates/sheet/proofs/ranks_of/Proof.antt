@@ -9,7 +9,7 @@ use Rattle.theory.specs.Model.Schedule.{none}
 use Rattle.sheet.specs.declared.Sheet.{Sheet}
 use Rattle.sheet.specs.declared.Field.the-variants.{Rank}
 use Rattle.sheet.specs.Fields.{value}
-use Rattle.sheet.specs.Steps.{nth}
+use Rattle.sheet.specs.Order.{nth}
 use Rattle.sheet.specs.Calls.{places}
 use Rattle.sheet.specs.PlaceLaws.{length-places, places-set, places-taken}
 use borrow.Author.Needs.{needs}

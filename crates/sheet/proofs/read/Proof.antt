@@ -11,7 +11,7 @@ use Rattle.answers.specs.declared.Verdict.the-variants.{No}
 use Rattle.answers.specs.Answers.{given, also, refusal}
 use Rattle.answers.specs.AnswerLaws.{also-no, also-fine}
 use Rattle.sheet.specs.Calls.{tailOf, endOf, sheetOf, readAs, readOf}
-use Rattle.sheet.specs.Told.{toldSheet, blank, sheetIn}
+use Rattle.sheet.specs.Answers.{toldSheet, blank, sheetIn}
 use borrow.Author.Needs.{needs}
 use Rattle.sheet.proofs.read.Statement.{statement}
 use Rattle.sheet.proofs.read.Tie as tie
@@ -41,11 +41,14 @@ refused-requires c κs = search needs
 
 returns : tie.Need-returns
 returns c =
-    let bytes = c .before .before .before .before .before .before .args .bytes .now in
-    let s = c .before .before .before .before .spell in
-    let p = c .before .enum-told2 .given .1 in
+    let at-enum-told-2 = c .before in
+    let at-judge-fields = at-enum-told-2 .before .before in
+    let at-spell = at-judge-fields .before in
+    let bytes = at-spell .before .before .args .bytes .now in
+    let s = at-spell .spell in
+    let p = at-enum-told-2 .enum-told2 .given .1 in
     no bytes (s .result) _ _ (c .refused .result) (s .ensures)
-    (also-no (also (tailOf bytes (endOf (s .result))) (given (s .result))) (c .before .before .before .judge-fields .ensures) p) p (c .refused .ensures)
+    (also-no (also (tailOf bytes (endOf (s .result))) (given (s .result))) (at-judge-fields .judge-fields .ensures) p) p (c .refused .ensures)
 
 end-of-requires : tie.Need-end-of-requires
 end-of-requires c κs = search needs
@@ -64,24 +67,35 @@ refused-requires-2 c κs = search needs
 
 returns-2 : tie.Need-returns-2
 returns-2 c =
-    let bytes = c .before .before .before .before .before .before .before .before .before .before .args .bytes .now in
-    let s = c .before .before .before .before .before .before .before .before .spell in
-    let p = c .before .enum-told4 .given .1 in
+    let at-enum-told-4 = c .before in
+    let at-judge-tail = at-enum-told-4 .before .before in
+    let at-end-of = at-judge-tail .before in
+    let at-enum-told = at-end-of .before in
+    let at-judge-fields = at-enum-told .before .before in
+    let at-spell = at-judge-fields .before in
+    let bytes = at-spell .before .before .args .bytes .now in
+    let s = at-spell .spell in
+    let p = at-enum-told-4 .enum-told4 .given .1 in
     no bytes (s .result) _ _ (c .refused2 .result) (s .ensures)
-    (also-fine (also (tailOf bytes (endOf (s .result))) (given (s .result))) (c .before .before .before .before .before .before .before .judge-fields .ensures) (c .before .before .before .before .before .enum-told .given .1)
-    ∙ also-no (given (s .result)) (c .before .before .before .judge-tail .ensures ∙ ap (tailOf bytes) (c .before .before .before .before .end-of .ensures)) p)
+    (also-fine (also (tailOf bytes (endOf (s .result))) (given (s .result))) (at-judge-fields .judge-fields .ensures) (at-enum-told .enum-told .given .1)
+    ∙ also-no (given (s .result)) (at-judge-tail .judge-tail .ensures ∙ ap (tailOf bytes) (at-end-of .end-of .ensures .0)) p)
     p (c .refused2 .ensures)
 
 returns-3 : tie.Need-returns-3
 unfolding readOf
 returns-3 c =
-    let bytes = c .before .before .before .before .before .before .before .before .before .args .bytes .now in
-    let s = c .before .before .before .before .before .before .before .spell in
+    let at-judge-tail = c .before .before in
+    let at-end-of = at-judge-tail .before in
+    let at-enum-told = at-end-of .before in
+    let at-judge-fields = at-enum-told .before .before in
+    let at-spell = at-judge-fields .before in
+    let bytes = at-spell .before .before .args .bytes .now in
+    let s = at-spell .spell in
     let p = c .enum-told3 .given .1 in
     let e : readOf bytes ≡ given (s .result) =
     ap (readAs bytes) (sym (s .ensures))
-    ∙ also-fine (also (tailOf bytes (endOf (s .result))) (given (s .result))) (c .before .before .before .before .before .before .judge-fields .ensures) (c .before .before .before .before .enum-told .given .1)
-    ∙ also-fine (given (s .result)) (c .before .before .judge-tail .ensures ∙ ap (tailOf bytes) (c .before .before .before .end-of .ensures)) p in
+    ∙ also-fine (also (tailOf bytes (endOf (s .result))) (given (s .result))) (at-judge-fields .judge-fields .ensures) (at-enum-told .enum-told .given .1)
+    ∙ also-fine (given (s .result)) (at-judge-tail .judge-tail .ensures ∙ ap (tailOf bytes) (at-end-of .end-of .ensures .0)) p in
     (also-fine (given (s .result)) refl p ∙ sym e, sym (ap sheetIn e))
 
 pub read-spec : {M : Type 1} → statement M

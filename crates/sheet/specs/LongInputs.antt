@@ -2,7 +2,7 @@
 use mathlib.Core.Path.{_≡_, refl, sym, ap, ap₂, _∙_, subst}
 use mathlib.Core.Bool.{Bool, true, false, cond}
 use mathlib.Core.List.{List, [], _∷_, _++_, append-assoc}
-use Prim.Native.Nat.{ℕ, _+_, _-_, _*_, _/_, _%_, _≤_, _<_}
+use Prim.Native.Nat.{ℕ, _+_, _-_, _*_, _/_, _%_, _≤_, _<_, min}
 use native.Mathlib.Omega.{arith}
 use native.Mathlib.Decide.{decLe}
 use lib.Dec.{ltb}
@@ -12,17 +12,16 @@ use borrow.Author.Tests.{ltb-false, lt-ltb, le-ltb}
 use Rattle.bits.specs.Bits.{bits, unpack, bytesFor, number}
 use Rattle.bits.specs.Laws.{number-same}
 use Rattle.bits.specs.Bytes.{bitAt, getD-unpack}
-use Rattle.theory.specs.Model.Schedule.{none}
 use Rattle.sheet.specs.declared.Sheet.{Sheet}
 use Rattle.sheet.specs.declared.Field.{Field}
 use Rattle.sheet.specs.declared.Field.the-variants.{Count, Period, Budget, Rank, Length, Entry}
 use Rattle.answers.specs.Answers.{Answer, given, refused, Judgement, fine, when, also, first}
-use Rattle.sheet.specs.AnswerLaws.{judged-whole}
-use Rattle.sheet.specs.Fields.{taskFields, entryFields, fields, width, place, outside, judged}
-use Rattle.sheet.specs.Calls.{judgeOf, endOf, spelt, taskSpelt, entrySpelt, sheetSpelt, sheetOf, judgedIn, tailOf, readAs, readOf}
-use Rattle.sheet.specs.PlaceLaws.{places-same}
-use Rattle.sheet.specs.EachLaws.{All, all-map, each-all, first-same}
-use Rattle.sheet.specs.RoomLaws.{ends-by, roomy}
+use Rattle.sheet.specs.Fields.{taskFields, entryFields, fields, width, place, value, outside, judged}
+use Rattle.sheet.specs.Calls.{fieldsOf, judgeOf, endOf, sheetBy, speltIn, countSpelt, lengthSpelt, spelt, sheetOf, judgedIn, tailOf, readAs, readOf}
+use Rattle.sheet.specs.FormatLaws.{located, place-located, widths-fields}
+use Rattle.sheet.specs.SpeltLaws.{sheet-same, spelt-counts}
+use Rattle.sheet.specs.EachLaws.{All, Each, each-all, each-fewer}
+use Rattle.sheet.specs.RoomLaws.{roomy-fields, roomy}
 
 -- ---- a refusal hides what comes after it
 
@@ -51,21 +50,20 @@ refused-last g xs f (n, vs, e) = go (first g xs) (first-append g xs (f ∷ []) �
 
 -- ---- fields in room for the first of them, where these are refused
 
-module _ (s : Sheet) (room : ℕ) (xs ys : List Field) (inside : All (λ f. place (s .count) f + width f ≤ room) xs) (wrong : Refused (first (judged s) xs)) where
-  front-judged : first (judgedIn room s) (xs ++ ys) ≡ first (judged s) (xs ++ ys)
+module _ (s : Sheet) (room : ℕ) (xs ys : List Field) (inside : All (λ f. place (fieldsOf s) f + width f ≤ room) xs) (wrong : Refused (first (judged (value s)) xs)) where
+  front-judged : first (judgedIn room s) (xs ++ ys) ≡ first (judged (value s)) (xs ++ ys)
   front-judged =
       first-append (judgedIn room s) xs ys
-      ∙ ap (λ j. also j (first (judgedIn room s) ys))
-      (first-same (judgedIn room s) (judged s) xs (all-map (λ f. place (s .count) f + width f ≤ room) (λ f. judgedIn room s f ≡ judged s f) xs (judged-whole room s) inside))
-      ∙ also-refused (first (judged s) xs) (first (judgedIn room s) ys) (first (judged s) ys) wrong
-      ∙ sym (first-append (judged s) xs ys)
+      ∙ ap (λ j. also j (first (judgedIn room s) ys)) (roomy-fields s room xs inside)
+      ∙ also-refused (first (judged (value s)) xs) (first (judgedIn room s) ys) (first (judged (value s)) ys) wrong
+      ∙ sym (first-append (judged (value s)) xs ys)
 
-  front-answer : {A : Type 0} (a b : Answer A) → also (first (judgedIn room s) (xs ++ ys)) a ≡ also (first (judged s) (xs ++ ys)) b
+  front-answer : {A : Type 0} (a b : Answer A) → also (first (judgedIn room s) (xs ++ ys)) a ≡ also (first (judged (value s)) (xs ++ ys)) b
   front-answer a b =
-      ap (λ j. also j a) front-judged ∙ also-refused (first (judged s) (xs ++ ys)) a b (whole wrong)
+      ap (λ j. also j a) front-judged ∙ also-refused (first (judged (value s)) (xs ++ ys)) a b (whole wrong)
     where
-      whole : Refused (first (judged s) xs) → Refused (first (judged s) (xs ++ ys))
-      whole (n, vs, e) = (n, vs, first-append (judged s) xs ys ∙ ap (λ j. also j (first (judged s) ys)) e)
+      whole : Refused (first (judged (value s)) xs) → Refused (first (judged (value s)) (xs ++ ys))
+      whole (n, vs, e) = (n, vs, first-append (judged (value s)) xs ys ∙ ap (λ j. also j (first (judged (value s)) ys)) e)
 
 -- ---- bytes longer than a sheet
 
@@ -90,22 +88,34 @@ module _ (bytes : List ℕ) (s : Sheet) (long : 95 ≤ length bytes) where
   bad-count : (1 ≤ n → n ≤ 16 → ⊥) → readAs bytes s ≡ also (judgeOf s) (refused 9 [])
   unfolding judgeOf
   bad-count h =
-      front-answer s room (Count ∷ []) (taskFields 0 n ++ Length ∷ entryFields 0 (s .length)) (omega arith, tt)
-      (refused-last (judged s) [] Count (out-of-range 1 16 n 2 h)) rest (refused 9 [])
+      front-answer s room (Count ∷ []) (taskFields 0 n ++ Length ∷ entryFields 0 (s .length)) (omega (arith, place-located n (s .length) .of-count), tt)
+      (refused-last (judged (value s)) [] Count (out-of-range 1 16 n 2 h)) rest (refused 9 [])
+
+  in-room : n ≤ 16 → Each (λ f. place (fieldsOf s) f + width f ≤ room) n 0
+  in-room b =
+      let at = place-located n (s .length) in
+      record {
+        of-count = omega (arith, at .of-count);
+        of-period = λ i l. omega (arith, at .of-period i l);
+        of-budget = λ i l. omega (arith, at .of-budget i l);
+        of-rank = λ i l. omega (arith, at .of-rank i l);
+        of-length = omega (arith, at .of-length);
+        of-entry = λ i l. absurd (omega arith);
+      }
 
   bad-length : n ≤ 16 → (1 ≤ s .length → s .length ≤ n → ⊥) → readAs bytes s ≡ also (judgeOf s) (refused 9 [])
   unfolding judgeOf entryFields
   bad-length b h =
-      subst (λ fs. also (first (judgedIn room s) fs) rest ≡ also (first (judged s) fs) (refused 9 []))
+      subst (λ fs. also (first (judgedIn room s) fs) rest ≡ also (first (judged (value s)) fs) (refused 9 []))
       (ap (λ l. Count ∷ l) (append-assoc (taskFields 0 n) (Length ∷ []) (entryFields 0 (s .length))))
-      (front-answer s room (fields n 0) (entryFields 0 (s .length)) (each-all (λ f. place n f + width f ≤ room) (ends-by n 0 room (omega arith)))
-      (refused-last (judged s) (Count ∷ taskFields 0 n) Length (out-of-range 1 n (s .length) 6 h)) rest (refused 9 []))
+      (front-answer s room (fields n 0) (entryFields 0 (s .length)) (each-all (λ f. place (fieldsOf s) f + width f ≤ room) (in-room b))
+      (refused-last (judged (value s)) (Count ∷ taskFields 0 n) Length (out-of-range 1 n (s .length) 6 h)) rest (refused 9 []))
 
   good-counts : n ≤ 16 → s .length ≤ n → readAs bytes s ≡ also (judgeOf s) (refused 9 [])
   good-counts b c =
       let pad = number (unpack bytes) (endOf s) (bytesFor (endOf s) * 8 - endOf s) in
-      ap₂ (λ j t. also j (also t (given s))) (roomy s room (omega arith))
-      (ap (λ t. also (when t 9) (when (ltb 0 pad) 9)) (lt-ltb (bytesFor (endOf s)) (length bytes) (omega arith)))
+      ap₂ (λ j t. also j (also t (given s))) (roomy s room (omega (arith, widths-fields n (s .length))))
+      (ap (λ t. also (when t 9) (when (ltb 0 pad) 9)) (lt-ltb (bytesFor (endOf s)) (length bytes) (omega (arith, widths-fields n (s .length)))))
 
   -- they are refused, if not for a field then for what follows the last
   long-refused : readAs bytes s ≡ also (judgeOf s) (refused 9 [])
@@ -123,30 +133,48 @@ over-count : (s : Sheet) → 16 < s .count → judgeOf s ≡ refused 2 []
 unfolding judgeOf first
 over-count s h = rw (le-ltb (s .count) 1 (omega arith), lt-ltb 16 (s .count) h)
 
-module _ (bs cs : List Bool) (same : (p : ℕ) → p < 752 → getD bs p false ≡ getD cs p false) where
-  spelt-same : (n : ℕ) (f : Field) → place n f + width f ≤ 752 → spelt bs n f ≡ spelt cs n f
-  spelt-same n f h = number-same bs cs (place n f) (place n f) (width f) (λ k l. same (place n f + k) (omega arith))
+module _ (bs cs : List Bool) (alike : (p : ℕ) → p < 752 → getD bs p false ≡ getD cs p false) where
+  field-same : (fs : List Field) (f : Field) → place fs f + width f ≤ 752 → speltIn bs fs f ≡ speltIn cs fs f
+  field-same fs f h = number-same bs cs (place fs f) (place fs f) (width f) (λ k l. alike (place fs f + k) (omega arith))
 
-  sheet-same : spelt bs 0 Count ≤ 16 → sheetOf bs ≡ sheetOf cs
-  unfolding sheetOf
-  sheet-same h =
-      let n = spelt bs 0 Count in
-      let m = spelt bs n Length in
-      let at : (i : ℕ) → i < n → taskSpelt bs n i ≡ taskSpelt cs n i =
-      λ i l. ap₂ (λ x y. record { period = x; budget = y; rank = spelt bs n (Rank i) }) (spelt-same n (Period i) (omega arith)) (spelt-same n (Budget i) (omega arith))
-      ∙ ap (λ z. record { period = spelt cs n (Period i); budget = spelt cs n (Budget i); rank = z }) (spelt-same n (Rank i) (omega arith)) in
-      ap₂ (λ x y. record { tasks = x; chain = y; count = n; length = m })
-      (places-same none n (taskSpelt bs n) (taskSpelt cs n) (λ i l g. at i l))
-      (places-same 0 m (entrySpelt bs n) (entrySpelt cs n) (λ i l g. spelt-same n (Entry i) (omega arith)))
-      ∙ ap₂ (sheetSpelt cs) (spelt-same 0 Count (omega arith)) (spelt-same n Length (omega arith) ∙ ap (λ k. spelt cs k Length) (spelt-same 0 Count (omega arith)))
+  count-same : countSpelt bs ≡ countSpelt cs
+  count-same = field-same (fields 0 0) Count (omega (arith, place-located 0 0 .of-count))
+
+  front-same : countSpelt bs ≤ 16 → sheetOf bs ≡ sheetOf cs
+  unfolding spelt
+  front-same h =
+      sheet-same (spelt bs) (speltIn cs (fields n m)) (each-fewer (λ f. speltIn bs (fields n m) f ≡ speltIn cs (fields n m) f) _ _ (omega (arith, spelt-counts bs .0)) (omega (arith, spelt-counts bs .1)) fields-same)
+      ∙ ap₂ (λ k j. sheetBy (speltIn cs (fields k j))) count-same length-same
+    where
+      n : ℕ
+      n = countSpelt bs
+
+      m : ℕ
+      m = lengthSpelt bs
+
+      at : Each (λ f. place (fields n m) f ≡ located n f) n m
+      at = place-located n m
+
+      length-same : m ≡ lengthSpelt cs
+      length-same = field-same (fields n 0) Length (omega (arith, place-located n 0 .of-length)) ∙ ap (λ k. speltIn cs (fields k 0) Length) count-same
+
+      fields-same : Each (λ f. speltIn bs (fields n m) f ≡ speltIn cs (fields n m) f) (min n 16) (min m 16)
+      fields-same =
+          record {
+            of-count = field-same (fields n m) Count (omega (arith, at .of-count));
+            of-period = λ i l. field-same (fields n m) (Period i) (omega (arith, at .of-period i (omega arith)));
+            of-budget = λ i l. field-same (fields n m) (Budget i) (omega (arith, at .of-budget i (omega arith)));
+            of-rank = λ i l. field-same (fields n m) (Rank i) (omega (arith, at .of-rank i (omega arith)));
+            of-length = field-same (fields n m) Length (omega (arith, at .of-length));
+            of-entry = λ i l. field-same (fields n m) (Entry i) (omega (arith, at .of-entry i (omega arith)));
+          }
 
   judge-same : judgeOf (sheetOf bs) ≡ judgeOf (sheetOf cs)
-  unfolding sheetOf
-  judge-same = go (decLe (spelt bs 0 Count) 16)
+  judge-same = go (decLe (countSpelt bs) 16)
     where
-      go : Dec (spelt bs 0 Count ≤ 16) → judgeOf (sheetOf bs) ≡ judgeOf (sheetOf cs)
-      go (yes h) = ap judgeOf (sheet-same h)
-      go (no h) = over-count (sheetOf bs) (omega arith) ∙ sym (over-count (sheetOf cs) (omega (arith, spelt-same 0 Count (omega arith))))
+      go : Dec (countSpelt bs ≤ 16) → judgeOf (sheetOf bs) ≡ judgeOf (sheetOf cs)
+      go (yes h) = ap judgeOf (front-same h)
+      go (no h) = over-count (sheetOf bs) (omega (arith, spelt-counts bs .0)) ∙ sym (over-count (sheetOf cs) (omega (arith, count-same, spelt-counts cs .0)))
 
 -- ---- the theorem
 

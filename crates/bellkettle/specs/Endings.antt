@@ -22,7 +22,8 @@ use Rattle.sheet.specs.SoundLaws.{judged-sound}
 use Rattle.sheet.specs.Answers.{toldSheet, toldBytes}
 use Rattle.schedule.specs.declared.answer.Responses.{Responses}
 use Rattle.schedule.specs.declared.answer.Responses.the-variants.{Table, No as NoTable}
-use Rattle.schedule.specs.Answer.{tasksOf, toldTotals}
+use Rattle.schedule.specs.Answer.{tasksOf}
+use Rattle.schedule.specs.Calls.{toldTotals}
 use Rattle.chain.specs.declared.answer.Delay.{Delay}
 use Rattle.chain.specs.declared.answer.Delay.the-variants.{Ticks as DelayTicks, No as NoDelay}
 use Rattle.chain.specs.declared.answer.Worst.{Worst}
@@ -33,7 +34,8 @@ use Rattle.chain.specs.declared.answer.Margin.{Margin}
 use Rattle.chain.specs.declared.answer.Margin.the-variants.{Ticks as MarginTicks, No as NoMargin}
 use Rattle.chain.specs.declared.answer.Figures.{Figures}
 use Rattle.chain.specs.declared.answer.Figures.the-variants.{Of, No as NoFigures}
-use Rattle.chain.specs.Answer.{toldDelay, toldWorst, toldBound, toldMargin, toldFigures, leaves}
+use Rattle.chain.specs.Calls.{toldDelay, toldWorst, toldBound, toldMargin, toldFigures}
+use Rattle.chain.specs.Answer.{leaves}
 use Rattle.chain.specs.Cases.{after-refusal}
 use Rattle.bellkettle.specs.declared.Outcome.{Outcome}
 use Rattle.bellkettle.specs.Answer.{alone, signed, totalsNumbers, figureNumbers, summaryNumbers, Returned, lentAfter, Ended}

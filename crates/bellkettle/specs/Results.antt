@@ -8,10 +8,10 @@ use Rattle.sheet.specs.declared.Sheet.{Sheet}
 use Rattle.answers.specs.Answers.{Answer, given, refused}
 use Rattle.answers.specs.NumberLaws.{Numbered, given-numbered, numbered-wider, after-numbered}
 use Rattle.sheet.specs.NumberLaws.{read-numbered, write-numbered}
-use Rattle.schedule.specs.Answer.{responsesOf}
-use Rattle.schedule.specs.Cases.{responses-numbered}
-use Rattle.chain.specs.Answer.{defaultLimit, delayOf, worstOf, boundOf, marginOf, defaultMarginOf, figuresOf}
-use Rattle.chain.specs.Cases.{delay-numbered, worst-numbered, bound-numbered, margin-numbered, figures-numbered}
+use Rattle.schedule.specs.Calls.{responsesOf}
+use Rattle.schedule.specs.NumberLaws.{responses-numbered}
+use Rattle.chain.specs.Calls.{defaultLimit, delayOf, worstOf, boundOf, marginOf, defaultMarginOf, figuresOf}
+use Rattle.chain.specs.NumberLaws.{delay-numbered, worst-numbered, bound-numbered, margin-numbered, figures-numbered}
 use Rattle.bellkettle.specs.Answer.{numberOf, alone, signed, totalsNumbers, figureNumbers, summaryNumbers, answered, countsOf, written}
 
 -- The number is 0 exactly when the answer is given.

@@ -6,8 +6,8 @@ use lib.IntN.{ℤ}
 use lib.ListN.{length}
 use Rattle.sheet.specs.declared.Sheet.{Sheet}
 use Rattle.answers.specs.Answers.{Answer, given}
-use Rattle.schedule.specs.Answer.{responsesOf}
-use Rattle.chain.specs.Answer.{delayOf, worstOf, boundOf, marginOf, defaultMarginOf, figuresOf}
+use Rattle.schedule.specs.Calls.{responsesOf}
+use Rattle.chain.specs.Calls.{delayOf, worstOf, boundOf, marginOf, defaultMarginOf, figuresOf}
 use Rattle.bellkettle.specs.Answer.{Returned, alone, signed, totalsNumbers, figureNumbers, summaryNumbers, answered, Ended, countsOf, periodsIn, budgetsIn, ranksIn, entriesIn, fieldsAfter, sheetFrom, written, WriteEnded}
 
 -- Two ends that meet a call's promise are equal: the returned numbers x and y, the values v and w, the tables t and u.

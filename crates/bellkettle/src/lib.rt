@@ -21,8 +21,8 @@ ghost use lib.Seq.{sets};
 ghost use Rattle.theory.specs.Model.Schedule.{none};
 ghost use Rattle.answers.specs.Answers.{given, refusal};
 ghost use Rattle.sheet.specs.Calls.{places};
-ghost use Rattle.schedule.specs.Answer.{responsesOf};
-ghost use Rattle.chain.specs.Answer.{delayOf, worstOf, boundOf, marginOf, defaultMarginOf, figuresOf};
+ghost use Rattle.schedule.specs.Calls.{responsesOf};
+ghost use Rattle.chain.specs.Calls.{delayOf, worstOf, boundOf, marginOf, defaultMarginOf, figuresOf};
 ghost use Rattle.bellkettle.specs.Answer.{numberOf, valuesAfter, Returned, alone, signed, totalsNumbers, figureNumbers, summaryNumbers, answered, Ended, countsOf, periodsIn, budgetsIn, ranksIn, entriesIn, sixteen, fieldsAfter, counted, tasksCounted, taskFrom, sheetFrom, WriteEnded};
 ghost use Rattle.bellkettle.specs.Steps.{toldOutcome, verdictOutcome, totalsOutcome, delayOutcome, worstOutcome, boundOutcome, marginOutcome, figuresOutcome, sizeIn, sizeOutcome};
 

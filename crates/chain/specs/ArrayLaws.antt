@@ -15,11 +15,11 @@ use Rattle.theory.specs.Analysis.Repetition.{response-jobs, response-period}
 use Rattle.theory.specs.Model.Chain.{Chain, delay, worst, worstRelease, bound}
 use Rattle.theory.specs.Analysis.ChainLaws.{chain-head}
 use Rattle.sheet.specs.Tasks.{firstOf, restOf}
-use Rattle.schedule.specs.Answer.{mostTicks}
+use Rattle.schedule.specs.Calls.{mostTicks}
 use Rattle.chain.specs.declared.answer.Figure.{Figure}
-use Rattle.chain.specs.Answer.{delayAt, figureOf, quickBound}
-use Rattle.chain.specs.Steps.{TakenChain, tasksIn, rowsIn, greatestIn, delayIn, Entry, Path, Greatest, Gathered}
-use Rattle.schedule.specs.Steps.{Holds}
+use Rattle.chain.specs.Calls.{delayAt, figureOf, quickBound}
+use Rattle.chain.specs.Conditions.{TakenChain, tasksIn, rowsIn, greatestIn, delayIn, TaskIn, ChainIn, Greatest, Gathered}
+use Rattle.schedule.specs.RowLaws.{Holds}
 use Rattle.arith.specs.RangeLaws.{maximum-eq}
 use Rattle.chain.specs.ReadLaws.{period-in, rank-in}
 use Rattle.chain.specs.GatherLaws.{row-within}
@@ -65,7 +65,7 @@ module _ {ts : List Task} {chain : List ℕ} (taken : TakenChain ts chain) {tabl
       ap (λ n. maximum n (rowsIn starts counts table i)) (gathered .counts-are .holds i l)
       ∙ maximum-eq (jobs ts i) (rowsIn starts counts table i) (response ts i) (λ k m. response-is i k l)
 
-  entry : (i : ℕ) → listed i → Entry periods starts counts table i
+  entry : (i : ℕ) → listed i → TaskIn periods starts counts table i
   entry i l = record {
     period-positive = rw (gathered .periods-are .holds i l) (taken .tasks .accepted .proper .period-positive i l);
     period-most = rw (gathered .periods-are .holds i l) (taken .tasks .period-most i l);
@@ -89,7 +89,7 @@ module _ {ts : List Task} {chain : List ℕ} (taken : TakenChain ts chain) {tabl
   known : listed p
   known = chain-head ts p (restOf chain) (taken .known)
 
-  pub arrays-path : 0 < length chain → Path periods starts counts table chain
+  pub arrays-path : 0 < length chain → ChainIn periods starts counts table chain
   arrays-path some = record { some = some; entry = λ j m. entry (getD chain j 0) (entry-listed ts chain (taken .known) j m) }
 
   pub arrays-first : getD counts p 0 * getD periods p 0 ≤ mostTicks

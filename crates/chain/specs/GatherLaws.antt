@@ -15,9 +15,9 @@ use Rattle.sheet.specs.declared.Sheet.{Sheet}
 use Rattle.sheet.specs.Sound.{Sound}
 use Rattle.sheet.specs.Tasks.{tasksOf}
 use Rattle.sheet.specs.TaskLaws.{period-at, rank-at}
-use Rattle.schedule.specs.Answer.{mostJobs}
+use Rattle.schedule.specs.Calls.{mostJobs}
 use Rattle.schedule.specs.Results.{Taken}
-use Rattle.chain.specs.Steps.{Column, Gathered}
+use Rattle.chain.specs.Conditions.{Column, Gathered}
 
 column-none : (places : List ℕ) (f : ℕ → ℕ) → length places ≡ 16 → Column places 0 f
 column-none places f whole = record { whole = whole; holds = λ i l. absurd (omega arith) }

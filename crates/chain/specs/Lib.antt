@@ -1,8 +1,11 @@
 -- The reader's part: what the calls answer, and what each promises.
-pub mod Answer
+pub mod Calls
 pub mod Promises
--- What the functions under the calls promise each other, and laws of it.
-pub mod Steps
+-- The laws of the calls: their refusals, and their answers case by case.
+pub mod NumberLaws
+pub mod CallLaws
+-- What the functions under the calls require and ensure, and laws of it.
+pub mod Conditions
 pub mod GreatestLaws
 pub mod MarginLaws
 pub mod ReadLaws
@@ -13,8 +16,6 @@ pub mod ReleaseLaws
 pub mod GatherLaws
 pub mod AlikeLaws
 pub mod ArrayLaws
-pub mod Cases
-pub mod Answered
 -- The results: what an answer says of every schedule, and one answer for each input.
 pub mod Results
 pub mod Unique

@@ -4,14 +4,14 @@ use mathlib.Core.List.{List}
 use Prim.Native.Nat.{ℕ}
 use lib.ListN.{length}
 use Rattle.sheet.specs.declared.Sheet.{Sheet}
-use Rattle.schedule.specs.Answer.{responsesOf, greatestAfter}
+use Rattle.schedule.specs.Calls.{responsesOf, greatestAfter}
 use Rattle.schedule.specs.Promises.{AnswersAs}
 use Rattle.chain.specs.declared.answer.Delay.{Delay}
 use Rattle.chain.specs.declared.answer.Worst.{Worst}
 use Rattle.chain.specs.declared.answer.Bound.{Bound}
 use Rattle.chain.specs.declared.answer.Margin.{Margin}
 use Rattle.chain.specs.declared.answer.TaskFigures.{TaskFigures}
-use Rattle.chain.specs.Answer.{defaultLimit, delayOf, worstOf, boundOf, marginOf, figuresOf, toldDelay, toldWorst, toldBound, toldMargin, toldFigures}
+use Rattle.chain.specs.Calls.{defaultLimit, delayOf, worstOf, boundOf, marginOf, figuresOf, toldDelay, toldWorst, toldBound, toldMargin, toldFigures}
 
 abbrev pub DelayPromise : Sheet → ℕ → List ℕ → Delay → List ℕ → Type 0
 DelayPromise s release old r table = AnswersAs (delayOf s release (length old)) s old (toldDelay r) table

@@ -20,14 +20,13 @@ use Rattle.answers.specs.Answers.{given}
 use Rattle.answers.specs.AnswerLaws.{after-given}
 use Rattle.sheet.specs.Tasks.{tasksOf, chainOf, firstOf, restOf}
 use Rattle.schedule.specs.declared.answer.Totals.{Totals}
-use Rattle.schedule.specs.Answer.{responsesOf}
+use Rattle.schedule.specs.Calls.{responsesOf}
 use Rattle.chain.specs.declared.answer.Summary.{Summary}
-use Rattle.chain.specs.Answer.{defaultLimit, summaryOf, delayOf, worstOf, boundOf, marginOf, defaultMarginOf, figuresOf}
-use Rattle.chain.specs.Steps.{TakenChain}
+use Rattle.chain.specs.Calls.{defaultLimit, summaryOf, delayOf, worstOf, boundOf, marginOf, defaultMarginOf, figuresOf}
+use Rattle.chain.specs.Conditions.{TakenChain}
 use Rattle.chain.specs.MarginLaws.{kept-within, below-over}
 use Rattle.chain.specs.ReleaseLaws.{job-release}
-use Rattle.chain.specs.Cases.{margin-asked}
-use Rattle.chain.specs.Answered.{delay-release, delay-given, worst-given, bound-given, margin-given}
+use Rattle.chain.specs.CallLaws.{margin-asked, delay-release, delay-given, worst-given, bound-given, margin-given}
 
 -- ---- the words
 

@@ -15,7 +15,7 @@ use Rattle.chain.specs.declared.answer.Margin.the-variants.{Ticks as Mar
 use Rattle.chain.specs.declared.answer.Figures.{Figures}
 use Rattle.chain.specs.declared.answer.Figures.the-variants.{Of, No as NoFigures}
 use Rattle.chain.specs.declared.answer.TaskFigures.{TaskFigures}
-use Rattle.chain.specs.Answer.{defaultLimit, toldDelay, toldWorst, toldBound, toldMargin, toldFigures}
+use Rattle.chain.specs.Calls.{defaultLimit, toldDelay, toldWorst, toldBound, toldMargin, toldFigures}
 use Rattle.chain.specs.Promises.{DelayPromise, WorstPromise, BoundPromise, MarginPromise, DefaultMarginPromise, FiguresPromise}
 
 -- Document 01's answer tells the case of the enum.

@@ -1,6 +1,6 @@
 // The chain: its delay at a release, its worst figure, its quick bound and its margin, or the first refusal. Each call works the
 // responses out afresh and leaves them in the lent table, from which a walk along the chain reads them. What is answered and left
-// in the table is defined in specs/Answer.antt; what that says of every schedule stands in specs/Results.antt.
+// in the table is defined in specs/Calls.antt; what that says of every schedule stands in specs/Results.antt.
 mod answer;
 
 pub use answer::Bound;
@@ -24,12 +24,12 @@ ghost use Rattle.theory.specs.Model.Schedule.{period, release};
 ghost use Rattle.theory.specs.Model.Chain.{bound};
 ghost use Rattle.sheet.specs.Sound.{Sound};
 ghost use Rattle.sheet.specs.Tasks.{tasksOf, chainOf, firstOf, restOf};
-ghost use Rattle.schedule.specs.Answer.{mostTicks};
-ghost use Rattle.chain.specs.Answer.{delayAt, figureOf, quickBound, less, mostLimit};
+ghost use Rattle.schedule.specs.Calls.{mostTicks};
+ghost use Rattle.chain.specs.Calls.{delayAt, figureOf, quickBound, less, mostLimit};
 ghost use Rattle.chain.specs.Promises.{DelayPromise, WorstPromise, BoundPromise, MarginPromise, DefaultMarginPromise, FiguresPromise};
 ghost use Rattle.schedule.specs.Results.{Taken};
-ghost use Rattle.schedule.specs.Steps.{Holds};
-ghost use Rattle.chain.specs.Steps.{mostWait, mostFigure, mostRelease, tasksIn, rowsIn, greatestIn, delayIn, onward, ahead, HandedOver, Opened, Row, Entry, Path, Greatest, pairBound, Gathered, worstRefusal};
+ghost use Rattle.schedule.specs.RowLaws.{Holds};
+ghost use Rattle.chain.specs.Conditions.{mostWait, mostFigure, mostRelease, tasksIn, rowsIn, greatestIn, delayIn, onward, ahead, HandedOver, FirstHandedOver, RowIn, TaskIn, ChainIn, Greatest, pairBound, Gathered, worstRefusal};
 
 // "margin limit 0 to 4,000,000"
 const MOST_LIMIT: u32 = 4000000;
@@ -37,7 +37,7 @@ const MOST_LIMIT: u32 = 4000000;
 const DEFAULT_LIMIT: u32 = 1000;
 
 // Of each task the period, the rank, where its row starts and how many jobs it has.
-fn gather(
+fn gather_tasks(
     s: Sheet,
     h: u32,
     periods: &mut [u32; 16],
@@ -67,7 +67,7 @@ fn gather(
 
 // The response of job k of task i; "a job released at or after H has the response of the job released at its release modulo H".
 fn response_of(i: usize, k: u32, starts: &[u32; 16], counts: &[u32; 16], table: &[u32]) -> u32
-    requires { ⌜ Row (now starts) (now counts) (now table) i ⌝ }
+    requires { ⌜ RowIn (now starts) (now counts) (now table) i ⌝ }
     ensures { λ r. ⌜ r ≡ rowsIn (now (starts .entry)) (now (counts .entry)) (now (table .entry)) i k ⌝ }
 {
     let count = counts[i];
@@ -90,8 +90,8 @@ fn hand_over(
     counts: &[u32; 16],
     table: &[u32],
 ) -> HandOver
-    requires { ⌜ Entry (now periods) (now starts) (now counts) (now table) p ⌝ }
-    requires { ⌜ Entry (now periods) (now starts) (now counts) (now table) c ⌝ }
+    requires { ⌜ TaskIn (now periods) (now starts) (now counts) (now table) p ⌝ }
+    requires { ⌜ TaskIn (now periods) (now starts) (now counts) (now table) c ⌝ }
     requires { ⌜ release (tasksIn (now periods) (now ranks)) p k ≤ mostRelease ⌝ }
     ensures { λ r. ⌜ HandedOver (tasksIn (now (periods .entry)) (now (ranks .entry))) (rowsIn (now (starts .entry)) (now (counts .entry)) (now (table .entry))) p c k r ⌝ }
 {
@@ -117,7 +117,7 @@ fn walk(
     counts: &[u32; 16],
     table: &[u32],
 ) -> u32
-    requires { ⌜ Path (now periods) (now starts) (now counts) (now table) (now chain) ⌝ }
+    requires { ⌜ ChainIn (now periods) (now starts) (now counts) (now table) (now chain) ⌝ }
     requires { ⌜ release (tasksIn (now periods) (now ranks)) (firstOf (now chain)) k + mostWait * length (now chain) ≤ mostRelease + mostWait ⌝ }
     ensures { λ r. ⌜ r ≡ delayIn (now (periods .entry)) (now (ranks .entry)) (now (starts .entry)) (now (counts .entry)) (now (table .entry)) (now (chain .entry)) k ⌝ }
 {
@@ -141,7 +141,7 @@ fn onward(chain: &[u8]) -> usize
 }
 
 // The first hand-over of the reading of job k; on a chain of one task the reading stays where it is.
-fn opening(
+fn first_hand_over(
     chain: &[u8],
     k: u32,
     periods: &[u32; 16],
@@ -150,9 +150,9 @@ fn opening(
     counts: &[u32; 16],
     table: &[u32],
 ) -> HandOver
-    requires { ⌜ Path (now periods) (now starts) (now counts) (now table) (now chain) ⌝ }
+    requires { ⌜ ChainIn (now periods) (now starts) (now counts) (now table) (now chain) ⌝ }
     requires { ⌜ release (tasksIn (now periods) (now ranks)) (firstOf (now chain)) k ≤ mostRelease ⌝ }
-    ensures { λ r. ⌜ Opened (now (periods .entry)) (now (ranks .entry)) (now (starts .entry)) (now (counts .entry)) (now (table .entry)) (now (chain .entry)) (ahead (now (chain .entry))) k r ⌝ }
+    ensures { λ r. ⌜ FirstHandedOver (now (periods .entry)) (now (ranks .entry)) (now (starts .entry)) (now (counts .entry)) (now (table .entry)) (now (chain .entry)) (ahead (now (chain .entry))) k r ⌝ }
 {
     let p = chain[0] as usize;
     if chain.len() == 1 {
@@ -172,7 +172,7 @@ fn worst_along(
     counts: &[u32; 16],
     table: &[u32],
 ) -> Figure
-    requires { ⌜ Path (now periods) (now starts) (now counts) (now table) (now chain) ⌝ }
+    requires { ⌜ ChainIn (now periods) (now starts) (now counts) (now table) (now chain) ⌝ }
     requires { ⌜ (length (now chain) ≤ 16) × (getD (now counts) (firstOf (now chain)) 0 * getD (now periods) (firstOf (now chain)) 0 ≤ mostTicks) ⌝ }
     ensures { λ r. ⌜ Greatest (getD (now (counts .entry)) (firstOf (now (chain .entry))) 0) (getD (now (periods .entry)) (firstOf (now (chain .entry))) 0) (delayIn (now (periods .entry)) (now (ranks .entry)) (now (starts .entry)) (now (counts .entry)) (now (table .entry)) (now (chain .entry))) r ⌝ }
 {
@@ -184,7 +184,7 @@ fn worst_along(
     let mut followed = 0u32;
     let mut k = 0u32;
     while k < n {
-        let next = opening(chain, k, periods, ranks, starts, counts, table);
+        let next = first_hand_over(chain, k, periods, ranks, starts, counts, table);
         if next.job + 1 != followed {
             followed = next.job + 1;
             let delay = next.wait
@@ -210,7 +210,7 @@ fn worst_along(
 
 // R of task i.
 fn task_response(i: usize, starts: &[u32; 16], counts: &[u32; 16], table: &[u32]) -> u32
-    requires { ⌜ Row (now starts) (now counts) (now table) i ⌝ }
+    requires { ⌜ RowIn (now starts) (now counts) (now table) i ⌝ }
     ensures { λ r. ⌜ r ≡ greatestIn (now (starts .entry)) (now (counts .entry)) (now (table .entry)) i ⌝ }
 {
     let from = starts[i] as usize;
@@ -228,8 +228,8 @@ fn pair_bound(
     counts: &[u32; 16],
     table: &[u32],
 ) -> u32
-    requires { ⌜ Entry (now periods) (now starts) (now counts) (now table) p ⌝ }
-    requires { ⌜ Entry (now periods) (now starts) (now counts) (now table) c ⌝ }
+    requires { ⌜ TaskIn (now periods) (now starts) (now counts) (now table) p ⌝ }
+    requires { ⌜ TaskIn (now periods) (now starts) (now counts) (now table) c ⌝ }
     ensures { λ r. ⌜ r ≡ pairBound (tasksIn (now (periods .entry)) (now (ranks .entry))) (greatestIn (now (starts .entry)) (now (counts .entry)) (now (table .entry))) p c ⌝ }
 {
     let g = arith::gcd(periods[p], periods[c]);
@@ -249,7 +249,7 @@ fn bound_along(
     counts: &[u32; 16],
     table: &[u32],
 ) -> u32
-    requires { ⌜ Path (now periods) (now starts) (now counts) (now table) (now chain) ⌝ }
+    requires { ⌜ ChainIn (now periods) (now starts) (now counts) (now table) (now chain) ⌝ }
     requires { ⌜ length (now chain) ≤ 16 ⌝ }
     ensures { λ r. ⌜ r ≡ bound (tasksIn (now (periods .entry)) (now (ranks .entry))) (greatestIn (now (starts .entry)) (now (counts .entry)) (now (table .entry))) (firstOf (now (chain .entry))) (restOf (now (chain .entry))) ⌝ }
 {
@@ -274,7 +274,7 @@ fn delay_in(s: Sheet, h: u32, k: u32, table: &[u32]) -> u32
     let mut ranks = [0u8; 16];
     let mut starts = [0u32; 16];
     let mut counts = [0u32; 16];
-    gather(s, h, &mut periods, &mut ranks, &mut starts, &mut counts);
+    gather_tasks(s, h, &mut periods, &mut ranks, &mut starts, &mut counts);
     let chain = s.chain;
     let m = s.length as usize;
     walk(&chain[..m], k, &periods, &ranks, &starts, &counts, table)
@@ -291,7 +291,7 @@ fn worst_in(s: Sheet, h: u32, table: &[u32]) -> Figure
     let mut ranks = [0u8; 16];
     let mut starts = [0u32; 16];
     let mut counts = [0u32; 16];
-    gather(s, h, &mut periods, &mut ranks, &mut starts, &mut counts);
+    gather_tasks(s, h, &mut periods, &mut ranks, &mut starts, &mut counts);
     let chain = s.chain;
     let m = s.length as usize;
     worst_along(&chain[..m], &periods, &ranks, &starts, &counts, table)
@@ -308,7 +308,7 @@ fn bound_in(s: Sheet, h: u32, table: &[u32]) -> u32
     let mut ranks = [0u8; 16];
     let mut starts = [0u32; 16];
     let mut counts = [0u32; 16];
-    gather(s, h, &mut periods, &mut ranks, &mut starts, &mut counts);
+    gather_tasks(s, h, &mut periods, &mut ranks, &mut starts, &mut counts);
     let chain = s.chain;
     let m = s.length as usize;
     bound_along(&chain[..m], &periods, &ranks, &starts, &counts, table)

@@ -25,9 +25,9 @@ use Rattle.sheet.specs.Calls.{judgeOf}
 use Rattle.sheet.specs.SoundLaws.{judged-sound}
 use Rattle.sheet.specs.Tasks.{tasksOf, chainOf, firstOf, restOf}
 use Rattle.sheet.specs.TaskLaws.{sound-proper, chain-known}
-use Rattle.schedule.specs.Answer.{mostTicks, mostJobs, lateTask, lateGreatest, lateness, sizesOf, responsesOf, rows}
+use Rattle.schedule.specs.Calls.{mostTicks, mostJobs, lateTask, lateGreatest, lateness, sizesOf, responsesOf, rows}
 use Rattle.schedule.specs.Lateness.{job-late, late-job}
-use Rattle.chain.specs.Answer.{figureOf, quickBound, worstOf, boundOf}
+use Rattle.chain.specs.Calls.{figureOf, quickBound, worstOf, boundOf}
 use Rattle.nine.specs.Outcome.{Figures, outcomeOf}
 
 -- ---- by clearing times

@@ -26,9 +26,9 @@ use Rattle.sheet.specs.Tasks.{tasksOf}
 use Rattle.sheet.specs.TaskLaws.{sound-proper, tasks-length, task-allowed}
 use Rattle.schedule.specs.declared.answer.Row.{Row}
 use Rattle.schedule.specs.declared.answer.Row.the-variants.{Rests, Late}
-use Rattle.schedule.specs.Answer.{mostTicks, lateTask, row}
+use Rattle.schedule.specs.Calls.{mostTicks, lateTask, row}
 use Rattle.schedule.specs.Lateness.{job-late, late-job}
-use Rattle.schedule.specs.Steps.{Period, brings, placed, coming, mostClear, restsTo, Additive, Level, Walk, Walked, RowFilled}
+use Rattle.schedule.specs.Conditions.{Period, brings, placed, coming, mostClear, restsTo, Additive, Level, Walk, Walked, RowFilled}
 use Rattle.schedule.proofs.Tasks.{level-own}
 
 -- What comes in is the load of the level.

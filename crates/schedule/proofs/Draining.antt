@@ -11,7 +11,7 @@ use borrow.Author.Count.{below-more}
 use Rattle.arith.specs.Ranges.{sum}
 use Rattle.theory.specs.Analysis.Backlog.{drain, drain-stretch}
 use Rattle.theory.specs.Analysis.Finish.{FirstZero}
-use Rattle.schedule.specs.Steps.{restsTo, Cleared, Blocked, Walk}
+use Rattle.schedule.specs.Conditions.{restsTo, Cleared, Blocked, Walk}
 
 pub rests-most : (a : ℕ → ℕ) (t : ℕ) → restsTo a t ≤ t
 unfolding restsTo sum

@@ -18,10 +18,11 @@ use Rattle.sheet.specs.TaskLaws.{tasks-length}
 use Rattle.schedule.specs.declared.answer.Totals.{Totals}
 use Rattle.schedule.specs.declared.answer.Size.{Size}
 use Rattle.schedule.specs.declared.answer.Found.the-variants.{Lowest, Late as LateFound}
-use Rattle.schedule.specs.Answer.{lateGreatest, rows, sizesOf, responsesOf, tableAfter}
+use Rattle.schedule.specs.Calls.{lateGreatest, rows, sizesOf, responsesOf, tableAfter}
 use Rattle.schedule.specs.Promises.{AnswersAs}
-use Rattle.schedule.specs.Cases.{sizes-numbered, sizes-given, responses-refused, responses-small, responses-late, responses-full}
-use Rattle.schedule.specs.Steps.{LowestTo, Filled}
+use Rattle.schedule.specs.NumberLaws.{sizes-numbered}
+use Rattle.schedule.specs.CallLaws.{sizes-given, responses-refused, responses-small, responses-late, responses-full}
+use Rattle.schedule.specs.Conditions.{LowestTo, Filled}
 use Rattle.schedule.proofs.Notes.{lowest-idle}
 
 module _ (s : Sheet) (old : List ℕ) where

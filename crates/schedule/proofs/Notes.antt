@@ -21,8 +21,8 @@ use Rattle.sheet.specs.declared.Sheet.{Sheet}
 use Rattle.sheet.specs.Sound.{Sound}
 use Rattle.sheet.specs.Tasks.{tasksOf}
 use Rattle.sheet.specs.TaskLaws.{rank-at}
-use Rattle.schedule.specs.Answer.{lateTask, lateGreatest}
-use Rattle.schedule.specs.Steps.{restsTo, LowestTo, LateTo}
+use Rattle.schedule.specs.Calls.{lateTask, lateGreatest}
+use Rattle.schedule.specs.Conditions.{restsTo, LowestTo, LateTo}
 
 module _ {s : Sheet} (ok : Sound s) (i : ℕ) (known : i < s .count) where
   abbrev ts : List Task

@@ -17,7 +17,7 @@ use Rattle.arith.specs.Ranges.{sum}
 use Rattle.arith.specs.RangeLaws.{sum-zero, sum-grows}
 use Rattle.theory.specs.Analysis.Backlog.{drain}
 use Rattle.schedule.specs.declared.answer.Turn.{Turn}
-use Rattle.schedule.specs.Steps.{brings, Places, placed, coming, NextAt, Turned}
+use Rattle.schedule.specs.Conditions.{brings, Places, placed, coming, NextAt, Turned}
 use Rattle.schedule.proofs.Draining.{Gap}
 
 -- One task

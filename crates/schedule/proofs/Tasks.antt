@@ -24,8 +24,8 @@ use Rattle.sheet.specs.declared.Sheet.{Sheet}
 use Rattle.sheet.specs.Sound.{Sound}
 use Rattle.sheet.specs.Tasks.{tasksOf}
 use Rattle.sheet.specs.TaskLaws.{sound-proper, tasks-length, task-at, jobs-at, place-allowed, task-allowed}
-use Rattle.schedule.specs.Answer.{mostTicks}
-use Rattle.schedule.specs.Steps.{Period, Places, Additive, Level}
+use Rattle.schedule.specs.Calls.{mostTicks}
+use Rattle.schedule.specs.Conditions.{Period, Places, Additive, Level}
 
 module _ {s : Sheet} (ok : Sound s) where
   -- The hyperperiod from the last task backwards

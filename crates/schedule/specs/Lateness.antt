@@ -15,7 +15,7 @@ use Rattle.theory.specs.Model.Schedule.{release, rank, Proper, need, Slot, idle
 use Rattle.theory.specs.Model.Greatest.{outranking, greatest}
 use Rattle.theory.specs.Model.Responses.{full, fullBudget, jobs, Late, LateTask, Accepted}
 use Rattle.theory.specs.Analysis.Hyperperiod.{jobs-released, released-jobs}
-use Rattle.schedule.specs.Answer.{late, lateTask, lateGreatest}
+use Rattle.schedule.specs.Calls.{late, lateTask, lateGreatest}
 
 -- One task
 

@@ -10,7 +10,7 @@ use Rattle.sheet.specs.Tasks.{tasksOf}
 use Rattle.schedule.specs.declared.answer.Responses.{Responses}
 use Rattle.schedule.specs.declared.answer.TaskResponses.{TaskResponses}
 use Rattle.schedule.specs.declared.answer.Sizes.{Sizes}
-use Rattle.schedule.specs.Answer.{sizesOf, responsesOf, tableAfter, greatestAfter, toldSize, toldTotals, sizesRefusal, responsesRefusal}
+use Rattle.schedule.specs.Calls.{sizesOf, responsesOf, tableAfter, greatestAfter, toldSize, toldTotals, sizesRefusal, responsesRefusal}
 
 abbrev pub SizesPromise : Sheet → Sizes → Type 0
 SizesPromise s r = toldSize r ≡ sizesOf s

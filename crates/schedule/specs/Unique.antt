@@ -1,7 +1,6 @@
 -- One input, one answer and one content of the table: two that meet a call's promise are equal.
 use mathlib.Core.Path.{_≡_, sym, ap, ap₂, _∙_}
 use mathlib.Core.List.{List}
-use lib.ListN.{length}
 use Prim.Native.Nat.{ℕ}
 use Rattle.answers.specs.declared.Refusal.{Refusal}
 use Rattle.answers.specs.AnswerLaws.{refused-given, refusal-unique}
@@ -11,7 +10,7 @@ use Rattle.schedule.specs.declared.answer.Responses.the-variants.{Table,
 use Rattle.schedule.specs.declared.answer.TaskResponses.{TaskResponses}
 use Rattle.schedule.specs.declared.answer.Sizes.{Sizes}
 use Rattle.schedule.specs.declared.answer.Sizes.the-variants.{Of, No as NoSize}
-use Rattle.schedule.specs.Answer.{toldSize, toldTotals}
+use Rattle.schedule.specs.Calls.{toldSize, toldTotals}
 use Rattle.schedule.specs.Promises.{SizesPromise, SizesRefusalPromise, ResponsesPromise, ResponsesRefusalPromise, TaskResponsesPromise}
 
 -- Document 01's answer tells the case of the enum.

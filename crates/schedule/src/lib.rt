@@ -1,7 +1,7 @@
 // The job table: the response of every job in the full-budget schedule, row by row, with hyperperiod, job count and idle ticks;
 // or the first refusal. One task's row comes from a walk over the releases of its level, which is the task and those that outrank
 // it, with one number of state: the tick by which the level's work is done. What is answered and left in the table is defined in
-// specs/Answer.antt.
+// specs/Calls.antt.
 mod answer;
 
 use answer::Found;
@@ -26,9 +26,10 @@ ghost use Rattle.theory.specs.Model.Responses.{hyperperiod, jobs, allJobs, task
 ghost use Rattle.sheet.specs.Calls.{places};
 ghost use Rattle.sheet.specs.Sound.{Sound};
 ghost use Rattle.sheet.specs.Tasks.{tasksOf};
-ghost use Rattle.schedule.specs.Answer.{mostTicks};
+ghost use Rattle.schedule.specs.Calls.{mostTicks};
 ghost use Rattle.schedule.specs.Promises.{SizesPromise, SizesRefusalPromise, ResponsesPromise, ResponsesRefusalPromise, TaskResponsesPromise};
-ghost use Rattle.schedule.specs.Steps.{Period, Holds, lateOf, coming, PlaceOf, Level, Ready, Turned, Walk, Walked, Places, RowFilled, Noted, FoundTo, Filled};
+ghost use Rattle.schedule.specs.Conditions.{Period, lateOf, coming, PlaceOf, Level, Ready, Turned, Walk, Walked, Places, RowFilled, Noted, FoundTo, Filled};
+ghost use Rattle.schedule.specs.RowLaws.{Holds};
 
 // "H at most 1,000,000; J at most 8,192"
 const MOST_TICKS: u32 = 1000000;
@@ -91,7 +92,7 @@ pub fn sizes(s: Sheet) -> Sizes
 }
 
 // The place that holds a period, or the one after all places.
-fn place_of(periods: &[u32; 16], size: usize, period: u32) -> usize
+fn period_place(periods: &[u32; 16], size: usize, period: u32) -> usize
     requires { ⌜ (size ≤ 16) × (length (now periods) ≡ 16) ⌝ }
     ensures { λ r. ⌜ PlaceOf (now (periods .entry)) size period r ⌝ }
 {
@@ -107,7 +108,7 @@ fn place_of(periods: &[u32; 16], size: usize, period: u32) -> usize
 
 // The periods of the tasks that outrank task i, how many they are, and the budgets of each. Tasks of one period are released
 // together, so they take one place.
-fn gather(s: Sheet, i: usize, periods: &mut [u32; 16], budgets: &mut [u32; 16]) -> usize
+fn gather_level(s: Sheet, i: usize, periods: &mut [u32; 16], budgets: &mut [u32; 16]) -> usize
     requires { ⌜ Sound s ⌝ ∗ ⌜ (i < s .count) × (length (now periods) ≡ 16) × (length (now budgets) ≡ 16) ⌝ }
     ensures { λ r. ⌜ Level (tasksOf s) i (now (periods .exit)) (now (budgets .exit)) r ⌝ }
 {
@@ -118,7 +119,7 @@ fn gather(s: Sheet, i: usize, periods: &mut [u32; 16], budgets: &mut [u32; 16]) 
     while j < n {
         let t = s.tasks[j];
         if own < t.rank {
-            let p = place_of(&*periods, size, t.period);
+            let p = period_place(&*periods, size, t.period);
             if p < size {
                 budgets[p] += t.budget;
             } else {
@@ -174,7 +175,7 @@ fn turn(
 
 // Fills the row of a task with the responses of its jobs, by a walk over the releases of its level up to `h`: the level's work is
 // done by tick `clear`, and where that is before the next release a job of the task is done with it, and the gap ends at rest.
-fn walk(
+fn walk_row(
     periods: &[u32; 16],
     budgets: &[u32; 16],
     size: usize,
@@ -221,8 +222,8 @@ fn fill_row(s: Sheet, i: usize, h: u32, row: &mut [u32]) -> Row
 {
     let mut periods = [0u32; 16];
     let mut budgets = [0u32; 16];
-    let size = gather(s, i, &mut periods, &mut budgets);
-    walk(&periods, &budgets, size, s.tasks[i], h, &mut *row)
+    let size = gather_level(s, i, &mut periods, &mut budgets);
+    walk_row(&periods, &budgets, size, s.tasks[i], h, &mut *row)
 }
 
 // What the rows tell up to that of task i, from what those before it and its own tell.

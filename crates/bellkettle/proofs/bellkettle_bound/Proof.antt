@@ -2,7 +2,7 @@
 use mathlib.Core.Path.{ap, _∙_}
 use lib.ListN.{length}
 use Rattle.answers.specs.Answers.{given, after}
-use Rattle.chain.specs.Answer.{boundOf}
+use Rattle.chain.specs.Calls.{boundOf}
 use Rattle.bellkettle.specs.Answer.{alone}
 use Rattle.bellkettle.specs.Steps.{toldOutcome}
 use Rattle.bellkettle.specs.Endings.{bound-told, ended-no, ended-given}

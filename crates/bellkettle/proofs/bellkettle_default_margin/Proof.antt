@@ -2,7 +2,7 @@
 use mathlib.Core.Path.{ap, _∙_}
 use lib.ListN.{length}
 use Rattle.answers.specs.Answers.{given, after}
-use Rattle.chain.specs.Answer.{defaultMarginOf}
+use Rattle.chain.specs.Calls.{defaultMarginOf}
 use Rattle.bellkettle.specs.Answer.{signed}
 use Rattle.bellkettle.specs.Steps.{toldOutcome}
 use Rattle.bellkettle.specs.Endings.{margin-told, ended-no, ended-given}

@@ -2,7 +2,7 @@
 use mathlib.Core.Path.{ap, _∙_}
 use lib.ListN.{length}
 use Rattle.answers.specs.Answers.{given, after}
-use Rattle.chain.specs.Answer.{delayOf}
+use Rattle.chain.specs.Calls.{delayOf}
 use Rattle.bellkettle.specs.Answer.{alone}
 use Rattle.bellkettle.specs.Steps.{toldOutcome}
 use Rattle.bellkettle.specs.Endings.{delay-told, ended-no, ended-given}

@@ -2,7 +2,7 @@
 use mathlib.Core.Path.{ap, _∙_}
 use lib.ListN.{length}
 use Rattle.answers.specs.Answers.{given, after}
-use Rattle.chain.specs.Answer.{figuresOf}
+use Rattle.chain.specs.Calls.{figuresOf}
 use Rattle.bellkettle.specs.Answer.{summaryNumbers}
 use Rattle.bellkettle.specs.Steps.{toldOutcome}
 use Rattle.bellkettle.specs.Endings.{figures-told, ended-no, ended-given}

@@ -2,7 +2,8 @@
 use mathlib.Core.Path.{ap, _∙_}
 use lib.ListN.{length}
 use Rattle.answers.specs.Answers.{given, after}
-use Rattle.schedule.specs.Answer.{tasksOf, responsesOf}
+use Rattle.schedule.specs.Answer.{tasksOf}
+use Rattle.schedule.specs.Calls.{responsesOf}
 use Rattle.chain.specs.Cases.{table-leaves}
 use Rattle.bellkettle.specs.Answer.{totalsNumbers}
 use Rattle.bellkettle.specs.Steps.{toldOutcome}

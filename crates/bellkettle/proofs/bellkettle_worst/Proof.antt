@@ -2,7 +2,7 @@
 use mathlib.Core.Path.{ap, _∙_}
 use lib.ListN.{length}
 use Rattle.answers.specs.Answers.{given, after}
-use Rattle.chain.specs.Answer.{worstOf}
+use Rattle.chain.specs.Calls.{worstOf}
 use Rattle.bellkettle.specs.Answer.{figureNumbers}
 use Rattle.bellkettle.specs.Steps.{toldOutcome}
 use Rattle.bellkettle.specs.Endings.{worst-told, ended-no, ended-given}

@@ -5,8 +5,8 @@ use lib.ListN.{length, length-map}
 use borrow.Author.Needs.{needs}
 use Rattle.sheet.specs.Tasks.{tasksOf, chainOf}
 use Rattle.sheet.specs.TaskLaws.{chain-length}
-use Rattle.chain.specs.Steps.{TakenChain}
-use Rattle.chain.specs.Answered.{sheet-chain}
+use Rattle.chain.specs.Conditions.{TakenChain}
+use Rattle.chain.specs.CallLaws.{sheet-chain}
 use Rattle.chain.specs.ArrayLaws.{arrays-path, arrays-bound}
 use Rattle.chain.proofs.bound_in.Statement.{statement}
 use Rattle.chain.proofs.bound_in.Tie as tie
@@ -21,8 +21,8 @@ lent c = chain-length (c .pre .0 .0) (whole c)
 taken : (c : tie.Start) → TakenChain (tasksOf (c .args .s)) (chainOf (c .args .s))
 taken c = sheet-chain (c .pre .0 .0) (c .pre .0 .1)
 
-gather-requires : tie.Need-gather-requires
-gather-requires c κs = search needs
+gather-tasks-requires : tie.Need-gather-tasks-requires
+gather-tasks-requires c κs = search needs
 
 cast-m : tie.Need-cast-m
 cast-m c = search needs
@@ -38,20 +38,20 @@ slice-aggregate-bound-along c = sym (lent (c .before .before .before .before .be
 bound-along-requires : tie.Need-bound-along-requires
 bound-along-requires c κs =
     let s = c .before .before .before .before .before .before .before .before .before .before .before .before .before in
-    let gathered = c .before .before .before .before .before .before .before .gather .ensures in
+    let gathered = c .before .before .before .before .before .before .before .gather-tasks .ensures in
     (arrays-path (taken s) (s .pre .1 .1) gathered (omega (arith, lent s, s .pre .0 .0 .length-least)), omega (arith, lent s, s .pre .0 .0 .length-most, s .pre .0 .0 .count-most))
 
 returns : tie.Need-returns
 returns c =
     let s = c .before .before .before .before .before .before .before .before .before .before .before .before .before .before in
-    let gathered = c .before .before .before .before .before .before .before .before .gather .ensures in
+    let gathered = c .before .before .before .before .before .before .before .before .gather-tasks .ensures in
     c .bound-along .ensures ∙ arrays-bound (taken s) (s .pre .1 .1) gathered
 
 pub bound-in-spec : {M : Type 1} → statement M
 bound-in-spec =
     tie.close
     (tie.spec
-    gather-requires
+    gather-tasks-requires
     cast-m
     array-share-prefix-chain
     slice-aggregate-bound-along

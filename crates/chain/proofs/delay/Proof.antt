@@ -12,12 +12,11 @@ use Rattle.sheet.specs.SoundLaws.{judged-sound}
 use Rattle.theory.specs.Analysis.ChainLaws.{chain-head}
 use Rattle.sheet.specs.TaskLaws.{chain-known}
 use Rattle.sheet.specs.Tasks.{tasksOf, chainOf, firstOf, restOf}
-use Rattle.schedule.specs.Answer.{sizesOf, responsesOf, toldSize, toldTotals, sizesRefusal, responsesRefusal}
-use Rattle.schedule.specs.Cases.{sizes-given}
-use Rattle.chain.specs.Answer.{delayAt, delayOf}
-use Rattle.chain.specs.Answered.{filled-ready}
+use Rattle.schedule.specs.Calls.{sizesOf, responsesOf, toldSize, toldTotals, sizesRefusal, responsesRefusal}
+use Rattle.schedule.specs.CallLaws.{sizes-given}
+use Rattle.chain.specs.Calls.{delayAt, delayOf}
+use Rattle.chain.specs.CallLaws.{filled-ready, answers-no, answers-given, answers-number, sizes-untouched, delay-beyond, delay-between, delay-asked}
 use Rattle.chain.specs.ReleaseLaws.{job-early, job-release}
-use Rattle.chain.specs.Cases.{answers-no, answers-given, answers-number, sizes-untouched, delay-beyond, delay-between, delay-asked}
 use Rattle.chain.proofs.delay.Statement.{statement}
 use Rattle.chain.proofs.delay.Tie as tie
 

@@ -9,14 +9,14 @@ use Rattle.theory.specs.Model.Responses.{hyperperiod}
 use Rattle.answers.specs.Answers.{given, refusal}
 use Rattle.sheet.specs.Sound.{Sound}
 use Rattle.sheet.specs.Tasks.{tasksOf, chainOf}
-use Rattle.schedule.specs.Answer.{responsesOf, toldTotals, responsesRefusal}
+use Rattle.schedule.specs.Calls.{responsesOf, toldTotals, responsesRefusal}
 use Rattle.schedule.specs.Results.{Taken}
-use Rattle.schedule.specs.Steps.{Holds}
+use Rattle.schedule.specs.RowLaws.{Holds}
 use Rattle.chain.specs.declared.answer.Summary.{Summary}
-use Rattle.chain.specs.Answer.{summaryOf, figuresOf}
-use Rattle.chain.specs.Steps.{TakenChain}
-use Rattle.chain.specs.Cases.{answers-no, answers-given}
-use Rattle.chain.specs.Answered.{filled-chain, filled-ready, worst-most}
+use Rattle.chain.specs.Calls.{summaryOf, figuresOf}
+use Rattle.chain.specs.Conditions.{TakenChain}
+use Rattle.chain.specs.CallLaws.{answers-no, answers-given, filled-chain, filled-ready}
+use Rattle.chain.specs.Largest.{worst-most}
 use Rattle.chain.proofs.figures.Statement.{statement}
 use Rattle.chain.proofs.figures.Tie as tie
 

@@ -7,7 +7,7 @@ use mir.Syntax.{w32}
 use mir.Val.{SFits, toZ}
 use mir.ValLaws.{toZ-pos, toZ-ofZ}
 use borrow.Author.Needs.{needs}
-use Rattle.chain.specs.Answer.{less}
+use Rattle.chain.specs.Calls.{less}
 use Rattle.chain.specs.MarginLaws.{less-mag}
 use Rattle.chain.proofs.less_of.Statement.{statement}
 use Rattle.chain.proofs.less_of.Tie as tie

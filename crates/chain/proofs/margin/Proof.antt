@@ -6,11 +6,11 @@ use mir.Syntax.{w32}
 use mir.ValLaws.{toZ-ofZ}
 use borrow.Author.Needs.{needs}
 use Rattle.answers.specs.Answers.{given, after, refusal}
-use Rattle.schedule.specs.Answer.{sizesOf, toldSize, sizesRefusal}
-use Rattle.chain.specs.Answer.{less, worstOf, marginOf, toldWorst}
-use Rattle.chain.specs.Steps.{worstRefusal}
-use Rattle.chain.specs.Cases.{answers-no, answers-given, answers-number, sizes-untouched, margin-over, margin-asked}
-use Rattle.chain.specs.Answered.{worst-given, worst-most}
+use Rattle.schedule.specs.Calls.{sizesOf, toldSize, sizesRefusal}
+use Rattle.chain.specs.Calls.{less, worstOf, marginOf, toldWorst}
+use Rattle.chain.specs.Conditions.{worstRefusal}
+use Rattle.chain.specs.CallLaws.{answers-no, answers-given, answers-number, sizes-untouched, margin-over, margin-asked, worst-given}
+use Rattle.chain.specs.Largest.{worst-most}
 use Rattle.chain.proofs.margin.Statement.{statement}
 use Rattle.chain.proofs.margin.Tie as tie
 

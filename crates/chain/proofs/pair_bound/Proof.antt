@@ -7,7 +7,7 @@ use lib.ListN.{getD}
 use borrow.Author.Tests.{lt-ltb, le-ltb}
 use Rattle.arith.specs.Whole.{gcd, up}
 use Rattle.arith.specs.WholeLaws.{gcd-divides-right, gcd-pos, up-near}
-use Rattle.chain.specs.Steps.{mostWait, greatestIn}
+use Rattle.chain.specs.Conditions.{mostWait, greatestIn}
 use Rattle.chain.specs.ReadLaws.{greatest-most, pair-in}
 use borrow.Author.Needs.{needs}
 use Rattle.chain.proofs.pair_bound.Statement.{statement}

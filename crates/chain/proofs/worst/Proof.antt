@@ -3,10 +3,9 @@ use mathlib.Core.Path.{_≡_, sym, ap, _∙_}
 use lib.ListN.{length}
 use borrow.Author.Needs.{needs}
 use Rattle.answers.specs.Answers.{given, refusal}
-use Rattle.schedule.specs.Answer.{responsesOf, toldTotals, responsesRefusal}
-use Rattle.chain.specs.Answer.{worstOf}
-use Rattle.chain.specs.Cases.{answers-no, answers-given}
-use Rattle.chain.specs.Answered.{filled-ready}
+use Rattle.schedule.specs.Calls.{responsesOf, toldTotals, responsesRefusal}
+use Rattle.chain.specs.Calls.{worstOf}
+use Rattle.chain.specs.CallLaws.{answers-no, answers-given, filled-ready}
 use Rattle.chain.proofs.worst.Statement.{statement}
 use Rattle.chain.proofs.worst.Tie as tie
 

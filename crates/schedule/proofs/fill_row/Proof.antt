@@ -6,19 +6,19 @@ use borrow.Author.Needs.{needs}
 use Rattle.schedule.proofs.fill_row.Statement.{statement}
 use Rattle.schedule.proofs.fill_row.Tie as tie
 
-gather-requires : tie.Need-gather-requires
-gather-requires c κs = search needs
+gather-level-requires : tie.Need-gather-level-requires
+gather-level-requires c κs = search needs
 
-mul-walk : tie.Need-mul-walk
-mul-walk c = search needs
+mul-walk-row : tie.Need-mul-walk-row
+mul-walk-row c = search needs
 
-element-copy-out-walk : tie.Need-element-copy-out-walk
-element-copy-out-walk c = search needs
+element-copy-out-walk-row : tie.Need-element-copy-out-walk-row
+element-copy-out-walk-row c = search needs
 
-walk-requires : tie.Need-walk-requires
-walk-requires c κs =
+walk-row-requires : tie.Need-walk-row-requires
+walk-row-requires c κs =
     let a = c .before .before .before .before .before .before .before .before in
-    let g = c .before .before .before .before .gather .ensures in
+    let g = c .before .before .before .before .gather-level .ensures in
     (g .places, rw (← task-at (a .pre .0) (a .args .i) (a .pre .1 .1 .0), coming-load g, a .pre .1 .1 .1) (walkable (a .pre .0) (a .args .i) (a .pre .1 .1 .0) (a .pre .1 .0)))
 
 same-length : tie.Need-same-length
@@ -27,11 +27,11 @@ same-length c = search needs
 returns : tie.Need-returns
 returns c =
     let a = c .before .before .before .before .before .before .before .before .before .before .before in
-    let g = c .before .before .before .before .before .before .before .gather .ensures in
-    let w = c .before .before .walk in
+    let g = c .before .before .before .before .before .before .before .gather-level .ensures in
+    let w = c .before .before .walk-row in
     row-filled (a .pre .0) (a .args .i) (a .pre .1 .1 .0) (a .pre .1 .0) (w .last .1 .1 .1 .1 .1 .0) (w .result) (w .kept .1 .1 .1 .1 .1 .0 ∙ a .pre .1 .1 .1) (rw (← task-at (a .pre .0) (a .args .i) (a .pre .1 .1 .0), coming-load g) at (w .ensures))
 
 pub fill-row-spec : {M : Type 1} → statement M
 fill-row-spec =
     tie.close
-    (tie.spec gather-requires mul-walk element-copy-out-walk walk-requires same-length returns)
+    (tie.spec gather-level-requires mul-walk-row element-copy-out-walk-row walk-row-requires same-length returns)

@@ -3,7 +3,7 @@ use native.Mathlib.Nat.{div-le-self}
 use Rattle.theory.specs.Model.Greatest.{greatest}
 use Rattle.sheet.specs.Tasks.{tasksOf}
 use Rattle.sheet.specs.TaskLaws.{jobs-at}
-use Rattle.schedule.specs.Answer.{rows}
+use Rattle.schedule.specs.Calls.{rows}
 use mathlib.Core.Path.{_≡_, refl, sym, ap, _∙_, subst}
 use Prim.Native.Nat.{_+_, _-_, _/_, _≤_, _<_}
 use native.Mathlib.Numerals.{add-one}
@@ -12,7 +12,7 @@ use lib.ListN.{length, getD}
 use Rattle.theory.specs.Model.Schedule.{none}
 use Rattle.arith.specs.Ranges.{sum}
 use Rattle.theory.specs.Model.Responses.{jobs, allJobs}
-use Rattle.schedule.specs.Steps.{Filled}
+use Rattle.schedule.specs.Conditions.{Filled}
 use Rattle.schedule.proofs.Tasks.{jobs-next, jobs-most, jobs-within, all-jobs}
 use Rattle.schedule.proofs.Entries.{part-length, row-more}
 use borrow.Author.Needs.{needs}

@@ -1,7 +1,7 @@
 -- Of the two cases the late one holds the task.
 use mathlib.Core.Path.{sym, ap, _∙_}
 use Rattle.answers.specs.declared.Refusal.the-variants.{With}
-use Rattle.schedule.specs.Steps.{lateOf}
+use Rattle.schedule.specs.Conditions.{lateOf}
 use borrow.Author.Needs.{needs}
 use Rattle.schedule.proofs.found_refusal.Statement.{statement}
 use Rattle.schedule.proofs.found_refusal.Tie as tie

@@ -7,7 +7,7 @@ use Prim.Native.Nat.{_-_, _≤_}
 use lib.ListN.{drop}
 use Rattle.theory.specs.Model.Responses.{hyperperiod}
 use Rattle.sheet.specs.Tasks.{tasksOf}
-use Rattle.schedule.specs.Answer.{mostTicks}
+use Rattle.schedule.specs.Calls.{mostTicks}
 use Rattle.schedule.proofs.Tasks.{multiple-start, multiple-step, multiple-most}
 use borrow.Author.Needs.{needs}
 use Rattle.schedule.proofs.hyperperiod.Statement.{statement}

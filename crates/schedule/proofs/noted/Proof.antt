@@ -3,7 +3,7 @@ use mathlib.Core.Path.{sym, subst}
 use Prim.Native.Nat.{suc}
 use native.Mathlib.Omega.{arith}
 use Rattle.sheet.specs.Tasks.{tasksOf}
-use Rattle.schedule.specs.Steps.{Noted, FoundTo}
+use Rattle.schedule.specs.Conditions.{Noted, FoundTo}
 use Rattle.schedule.proofs.Notes.{late-first, late-greater, late-kept, on-time-late, on-time-lowest, on-time-kept}
 use borrow.Author.Needs.{needs}
 use Rattle.schedule.proofs.noted.Statement.{statement}

@@ -6,9 +6,9 @@ use Rattle.answers.specs.Answers.{given, refusal}
 use Rattle.sheet.specs.Sound.{Sound}
 use Rattle.sheet.specs.SoundLaws.{judged-sound}
 use Rattle.sheet.specs.Tasks.{tasksOf}
-use Rattle.schedule.specs.Answer.{sizesOf, toldSize, sizesRefusal}
-use Rattle.schedule.specs.Cases.{sizes-given}
-use Rattle.schedule.specs.Steps.{lateOf, Filled}
+use Rattle.schedule.specs.Calls.{sizesOf, toldSize, sizesRefusal}
+use Rattle.schedule.specs.CallLaws.{sizes-given}
+use Rattle.schedule.specs.Conditions.{lateOf, Filled}
 use Rattle.schedule.proofs.Endings.{answers-refused, answers-small, answers-late, answers-full}
 use borrow.Author.Needs.{needs}
 use Rattle.schedule.proofs.responses.Statement.{statement}

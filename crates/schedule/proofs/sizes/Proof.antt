@@ -8,8 +8,8 @@ use Rattle.answers.specs.AnswerLaws.{refusal-is}
 use Rattle.sheet.specs.Calls.{judgeOf}
 use Rattle.sheet.specs.Sound.{Sound}
 use Rattle.sheet.specs.SoundLaws.{judged-sound}
-use Rattle.schedule.specs.Cases.{sizes-refused, sizes-over, sizes-many, sizes-fit}
-use Rattle.schedule.specs.Answer.{mostTicks}
+use Rattle.schedule.specs.CallLaws.{sizes-refused, sizes-over, sizes-many, sizes-fit}
+use Rattle.schedule.specs.Calls.{mostTicks}
 use borrow.Author.Needs.{needs}
 use Rattle.schedule.proofs.sizes.Statement.{statement}
 use Rattle.schedule.proofs.sizes.Tie as tie

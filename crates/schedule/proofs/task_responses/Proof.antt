@@ -7,8 +7,9 @@ use Rattle.sheet.specs.declared.Sheet.{Sheet}
 use Rattle.answers.specs.declared.Refusal.{Refusal}
 use Rattle.answers.specs.Answers.{refusal}
 use Rattle.sheet.specs.SoundLaws.{judged-sound}
-use Rattle.schedule.specs.Answer.{greatestAfter, toldTotals}
-use Rattle.schedule.specs.Results.{responses-given, filled-holds}
+use Rattle.schedule.specs.Calls.{greatestAfter, toldTotals}
+use Rattle.schedule.specs.Results.{responses-given}
+use Rattle.schedule.specs.RowLaws.{filled-holds}
 use borrow.Author.Needs.{needs}
 use Rattle.schedule.proofs.task_responses.Statement.{statement}
 use Rattle.schedule.proofs.task_responses.Tie as tie

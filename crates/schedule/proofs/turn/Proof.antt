@@ -5,7 +5,7 @@ use native.Mathlib.Nat.{le-refl}
 use native.Mathlib.Omega.{arith}
 use Prim.Native.Nat.{suc, _-_, _<_}
 use Rattle.arith.specs.WholeLaws.{up-above}
-use Rattle.schedule.specs.Steps.{brings, placed, coming}
+use Rattle.schedule.specs.Conditions.{brings, placed, coming}
 use Rattle.schedule.proofs.Releases.{Moved, moved-now, moved-later, TurnedTo, turn-start, placed-fits, turned-now, turned-later}
 use borrow.Author.Needs.{needs}
 use Rattle.schedule.proofs.turn.Statement.{statement}

@@ -9,7 +9,7 @@ use Rattle.arith.specs.Whole.{up}
 use Rattle.theory.specs.declared.Task.{Task}
 use Rattle.arith.specs.Ranges.{sum}
 use Rattle.theory.specs.Model.Schedule.{none, period, budget, rank, idle, busy}
-use Rattle.theory.specs.Model.Responses.{full, response, hyperperiod, jobs, allJobs}
+use Rattle.theory.specs.Model.Responses.{full, hyperperiod, jobs}
 use Rattle.theory.specs.Analysis.Level.{level}
 use Rattle.theory.specs.Analysis.Backlog.{load, drain}
 use Rattle.theory.specs.Analysis.Finish.{FirstZero}
@@ -22,7 +22,7 @@ use Rattle.schedule.specs.declared.answer.Row.{Row}
 use Rattle.schedule.specs.declared.answer.Row.the-variants.{Rests, Late as LateRow}
 use Rattle.schedule.specs.declared.answer.Found.{Found}
 use Rattle.schedule.specs.declared.answer.Found.the-variants.{Lowest, Late as LateFound}
-use Rattle.schedule.specs.Answer.{mostTicks, lateTask, lateGreatest, row, rows}
+use Rattle.schedule.specs.Calls.{mostTicks, lateTask, lateGreatest, row, rows}
 
 -- h is the hyperperiod, within document 01's limit.
 pub record Period (s : Sheet) (h : ℕ) : Type 0 where
@@ -160,10 +160,3 @@ pub record Filled (ts : List Task) (n end : ℕ) (old table : List ℕ) (found :
   pub same-length : length table ≡ length old
   pub untouched : drop end table ≡ drop end old
   pub filled : lateGreatest ts n ≡ idle → take end table ≡ rows ts n
-
--- ---- a table that is filled
-
--- The rows of all tasks stand at the front of a table.
-pub record Holds (ts : List Task) (table : List ℕ) : Type 0 where
-  pub enough : allJobs ts ≤ length table
-  pub entry : (i k : ℕ) → i < length ts → k < jobs ts i → getD table (sum i (jobs ts) + k) 0 ≡ response ts i k

@@ -15,7 +15,7 @@ use Rattle.theory.specs.Model.Chain.{Chain, outranks, Table, nextRelease, delay
 use Rattle.answers.specs.declared.Refusal.{Refusal}
 use Rattle.answers.specs.declared.Refusal.the-variants.{Number}
 use Rattle.sheet.specs.Tasks.{firstOf, restOf}
-use Rattle.schedule.specs.Answer.{mostJobs, rows}
+use Rattle.schedule.specs.Calls.{mostJobs, rows}
 use Rattle.schedule.specs.Results.{Taken}
 use Rattle.chain.specs.declared.answer.Figure.{Figure}
 use Rattle.chain.specs.declared.answer.Worst.{Worst}
@@ -78,13 +78,13 @@ abbrev pub ahead : List ℕ → List ℕ
 ahead chain = drop (onward chain) chain
 
 -- The first hand-over of the reading of job k of a chain's first task, after which `rest` is left of the chain.
-pub record Opened (periods ranks starts counts table chain rest : List ℕ) (k : ℕ) (next : HandOver) : Type 0 where
+pub record FirstHandedOver (periods ranks starts counts table chain rest : List ℕ) (k : ℕ) (next : HandOver) : Type 0 where
   pub delay-is : delayIn periods ranks starts counts table chain k ≡ next .wait + delayIn periods ranks starts counts table rest (next .job)
   pub meets : release (tasksIn periods ranks) (firstOf chain) k + next .wait ≡ release (tasksIn periods ranks) (firstOf rest) (next .job)
   pub near : next .wait ≤ mostWait
 
 -- The row of task i is in the table, and no response in it is over the longest period.
-pub record Row (starts counts table : List ℕ) (i : ℕ) : Type 0 where
+pub record RowIn (starts counts table : List ℕ) (i : ℕ) : Type 0 where
   pub known : i < 16
   pub some : 0 < getD counts i 0
   pub few : getD starts i 0 + getD counts i 0 ≤ mostJobs
@@ -92,15 +92,15 @@ pub record Row (starts counts table : List ℕ) (i : ℕ) : Type 0 where
   pub response-most : (k : ℕ) → k < getD counts i 0 → getD table (getD starts i 0 + k) 0 ≤ mostPeriod
 
 -- Its period is within its limits too.
-pub record Entry (periods starts counts table : List ℕ) (i : ℕ) : Type 0 where
+pub record TaskIn (periods starts counts table : List ℕ) (i : ℕ) : Type 0 where
   pub period-positive : 0 < getD periods i 0
   pub period-most : getD periods i 0 ≤ mostPeriod
-  pub row : Row starts counts table i
+  pub row : RowIn starts counts table i
 
 -- A chain of such tasks.
-pub record Path (periods starts counts table chain : List ℕ) : Type 0 where
+pub record ChainIn (periods starts counts table chain : List ℕ) : Type 0 where
   pub some : 0 < length chain
-  pub entry : (j : ℕ) → j < length chain → Entry periods starts counts table (getD chain j 0)
+  pub entry : (j : ℕ) → j < length chain → TaskIn periods starts counts table (getD chain j 0)
 
 -- The greatest of n delays, and the smallest release that gives it, where releases lie T apart.
 pub record Greatest (n T : ℕ) (delays : ℕ → ℕ) (figure : Figure) : Type 0 where

@@ -3,8 +3,8 @@ use native.Mathlib.Omega.{arith}
 use native.Mathlib.Nat.{le-refl}
 use Prim.Native.Nat.{_-_, _≤_}
 use borrow.Author.Needs.{needs}
-use Rattle.schedule.proofs.place_of.Statement.{statement}
-use Rattle.schedule.proofs.place_of.Tie as tie
+use Rattle.schedule.proofs.period_place.Statement.{statement}
+use Rattle.schedule.proofs.period_place.Tie as tie
 
 abbrev Inv-loop : tie.InvT-loop
 Inv-loop periods size period p₀ p = p ≤ size
@@ -36,8 +36,8 @@ loop-again c = search needs
 returns-2 : tie.Need-returns-2 Inv-loop μ-loop
 returns-2 c = record { within = le-refl _; holds = λ l. absurd (omega arith) }
 
-pub place-of-spec : {M : Type 1} → statement M
-place-of-spec =
+pub period-place-spec : {M : Type 1} → statement M
+period-place-spec =
     tie.close
     (tie.spec
     Inv-loop

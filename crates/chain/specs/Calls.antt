@@ -12,7 +12,7 @@ use Rattle.theory.specs.Model.Chain.{delay, worst, worstRelease, bound}
 use Rattle.sheet.specs.declared.Sheet.{Sheet}
 use Rattle.answers.specs.Answers.{Answer, given, when, after, also, refusal}
 use Rattle.sheet.specs.Tasks.{tasksOf, chainOf, firstOf, restOf}
-use Rattle.schedule.specs.Answer.{sizesOf, responsesOf}
+use Rattle.schedule.specs.Calls.{sizesOf, responsesOf}
 use Rattle.schedule.specs.declared.answer.Totals.{Totals}
 use Rattle.chain.specs.declared.answer.Figure.{Figure}
 use Rattle.chain.specs.declared.answer.Delay.{Delay}

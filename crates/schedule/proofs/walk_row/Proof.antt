@@ -4,12 +4,12 @@ use mathlib.Core.Logic.{⊎-elim}
 use Prim.Native.Nat.{_-_}
 use native.Mathlib.Omega.{arith}
 use lib.ListN.{length}
-use Rattle.schedule.specs.Steps.{coming, NextAt}
+use Rattle.schedule.specs.Conditions.{coming, NextAt}
 use Rattle.schedule.proofs.Draining.{rests-most, Gap, Underway, start, release-most, finished, some-work, waited, blocked, rested-on, place-fits, job-done}
 use Rattle.schedule.proofs.Releases.{turned-gap, turned-next, next-start}
 use borrow.Author.Needs.{needs}
-use Rattle.schedule.proofs.walk.Statement.{statement}
-use Rattle.schedule.proofs.walk.Tie as tie
+use Rattle.schedule.proofs.walk_row.Statement.{statement}
+use Rattle.schedule.proofs.walk_row.Tie as tie
 
 abbrev Inv-loop : tie.InvT-loop
 Inv-loop periods budgets size own h row₀ next₀ at₀ due₀ clear₀ rests₀ release₀ k₀ row next at due clear rests release k =
@@ -119,8 +119,8 @@ same-length-2 c = c .before .loop .inv .0 .whole
 returns-2 : tie.Need-returns-2 Inv-loop μ-loop
 returns-2 c = finished (c .before .before .before .pre .1) (c .before .loop .inv .0) (omega arith)
 
-pub walk-spec : {M : Type 1} → statement M
-walk-spec =
+pub walk-row-spec : {M : Type 1} → statement M
+walk-row-spec =
     tie.close
     (tie.spec
     Inv-loop

@@ -3,9 +3,9 @@ use native.Mathlib.Omega.{arith}
 use Prim.Native.Nat.{_<_}
 use lib.ListN.{length}
 use borrow.Author.Needs.{needs}
-use Rattle.chain.specs.WalkLaws.{opened-one, opened-more}
-use Rattle.chain.proofs.opening.Statement.{statement}
-use Rattle.chain.proofs.opening.Tie as tie
+use Rattle.chain.specs.WalkLaws.{handed-one, handed-more}
+use Rattle.chain.proofs.first_hand_over.Statement.{statement}
+use Rattle.chain.proofs.first_hand_over.Tie as tie
 
 more : (c : tie.Else1) → 1 < length (c .before .before .before .before .args .chain .now)
 more c = let s = c .before .before .before .before in omega (arith, s .pre .0 .some, c .if1 .left)
@@ -17,7 +17,7 @@ cast-p : tie.Need-cast-p
 cast-p c = omega (arith, c .shared-slice-known3 .given 0)
 
 returns : tie.Need-returns
-returns c = let s = c .before .before .before .before in opened-one (s .args .ranks .now) (s .pre .0) (s .args .k) (c .if1 .taken)
+returns c = let s = c .before .before .before .before in handed-one (s .args .ranks .now) (s .pre .0) (s .args .k) (c .if1 .taken)
 
 shared-slice-read-c : tie.Need-shared-slice-read-c
 shared-slice-read-c c = search needs
@@ -33,10 +33,10 @@ hand-over-requires c κs =
 returns-2 : tie.Need-returns-2
 returns-2 c =
     let s = c .before .before .before .before .before .before in
-    opened-more (s .args .ranks .now) (s .pre .0) (s .args .k) (c .hand-over .result) (more (c .before .before)) (c .hand-over .ensures)
+    handed-more (s .args .ranks .now) (s .pre .0) (s .args .k) (c .hand-over .result) (more (c .before .before)) (c .hand-over .ensures)
 
-pub opening-spec : {M : Type 1} → statement M
-opening-spec =
+pub first-hand-over-spec : {M : Type 1} → statement M
+first-hand-over-spec =
     tie.close
     (tie.spec
     shared-slice-read-p

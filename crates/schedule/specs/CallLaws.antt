@@ -1,44 +1,20 @@
--- The answer of `responses`, case by case: what each is given for, and what is known where it is given.
+-- The answers case by case: what each is given for, and what is known where it is given.
 use mathlib.Core.Path.{_≡_}
 use mathlib.Core.List.{[], _∷_}
 use Prim.Native.Nat.{ℕ, _≤_, _<_}
-use native.Mathlib.Omega.{arith}
 use lib.Dec.{ltb}
 use lib.ListN.{length}
 use borrow.Author.Tests.{ltb-false, lt-ltb, le-ltb}
-use Rattle.theory.specs.Model.Schedule.{Slot, idle, busy}
+use Rattle.theory.specs.Model.Schedule.{idle, busy}
 use Rattle.theory.specs.Model.Responses.{hyperperiod, allJobs, idleTicks}
-use Rattle.sheet.specs.declared.Sheet.{Sheet}
 use Rattle.answers.specs.declared.Refusal.{Refusal}
 use Rattle.answers.specs.Answers.{given, refused, fine, when, refusal}
 use Rattle.answers.specs.AnswerLaws.{when-fine, also-given}
-use Rattle.answers.specs.NumberLaws.{Numbered, given-numbered, refused-numbered, numbered-wider, when-numbered, after-numbered, also-numbered}
+use Rattle.sheet.specs.declared.Sheet.{Sheet}
 use Rattle.sheet.specs.Calls.{judgeOf}
-use Rattle.sheet.specs.NumberLaws.{judge-numbered}
 use Rattle.sheet.specs.Tasks.{tasksOf}
 use Rattle.schedule.specs.declared.answer.Size.{Size}
-use Rattle.schedule.specs.Answer.{mostTicks, mostJobs, lateGreatest, lateness, sizesOf, responsesOf}
-
--- The numbers of refusal
-
--- "2 to 8", "After that 10, 11",
-pub sizes-numbered : (s : Sheet) → Numbered 2 11 (sizesOf s)
-unfolding sizesOf
-sizes-numbered s =
-    also-numbered (numbered-wider (judge-numbered s) (omega arith) (omega arith))
-    (also-numbered (when-numbered (ltb mostTicks (hyperperiod (tasksOf s))) 10 (omega arith) (omega arith))
-    (also-numbered (when-numbered (ltb mostJobs (allJobs (tasksOf s))) 11 (omega arith) (omega arith)) (given-numbered _)))
-
--- then "14, 15".
-pub responses-numbered : (s : Sheet) (room : ℕ) → Numbered 2 15 (responsesOf s room)
-unfolding responsesOf
-responses-numbered s room =
-    after-numbered (numbered-wider (sizes-numbered s) (omega arith) (omega arith))
-    (λ size. also-numbered (when-numbered (ltb room (size .jobs)) 14 (omega arith) (omega arith)) (also-numbered (go (lateGreatest (tasksOf s) (length (tasksOf s)))) (given-numbered _)))
-  where
-    go : (x : Slot) → Numbered 2 15 (lateness x)
-    go idle = given-numbered tt
-    go (busy i) = refused-numbered 15 (i ∷ []) (omega arith) (omega arith)
+use Rattle.schedule.specs.Calls.{mostTicks, mostJobs, lateGreatest, sizesOf, responsesOf}
 
 -- H and J
 

@@ -8,11 +8,11 @@ use Rattle.arith.specs.Ranges.{sum}
 use Rattle.theory.specs.Model.Responses.{jobs}
 use Rattle.sheet.specs.Tasks.{tasksOf}
 use Rattle.sheet.specs.TaskLaws.{tasks-length, jobs-at}
-use Rattle.chain.specs.Steps.{Gathered}
+use Rattle.chain.specs.Conditions.{Gathered}
 use Rattle.chain.specs.GatherLaws.{gathered-none, gathered-more, row-few}
 use borrow.Author.Needs.{needs}
-use Rattle.chain.proofs.gather.Statement.{statement}
-use Rattle.chain.proofs.gather.Tie as tie
+use Rattle.chain.proofs.gather_tasks.Statement.{statement}
+use Rattle.chain.proofs.gather_tasks.Tie as tie
 
 abbrev Inv-loop : tie.InvT-loop
 Inv-loop h periods₀ ranks₀ starts₀ counts₀ s n from₀ i₀ periods ranks starts counts from i =
@@ -86,8 +86,8 @@ returns c =
     let l = c .before .loop in
     subst (λ n. Gathered (tasksOf (s .args .t1)) n (l .periods) (l .ranks) (l .starts) (l .counts)) {x = l .i} {y = length (tasksOf (s .args .t1))} (omega (arith, tasks-length (s .pre .0 .0))) (l .inv .2)
 
-pub gather-spec : {M : Type 1} → statement M
-gather-spec =
+pub gather-tasks-spec : {M : Type 1} → statement M
+gather-tasks-spec =
     tie.close
     (tie.spec
     Inv-loop

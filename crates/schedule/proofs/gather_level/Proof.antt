@@ -6,8 +6,8 @@ use Prim.Native.Nat.{_-_, _<_}
 use Rattle.sheet.specs.TaskLaws.{place-allowed}
 use Rattle.schedule.proofs.Tasks.{GatheredTo, gather-start, gather-level, gather-in, gather-with, gather-out}
 use borrow.Author.Needs.{needs}
-use Rattle.schedule.proofs.gather.Statement.{statement}
-use Rattle.schedule.proofs.gather.Tie as tie
+use Rattle.schedule.proofs.gather_level.Statement.{statement}
+use Rattle.schedule.proofs.gather_level.Tie as tie
 
 abbrev Inv-loop : tie.InvT-loop
 Inv-loop i periods₀ budgets₀ s n own size₀ j₀ periods budgets size j =
@@ -34,8 +34,8 @@ mul-t c = search needs
 element-copy-out-t : tie.Need-element-copy-out-t Inv-loop μ-loop
 element-copy-out-t c = search needs
 
-place-of-requires : tie.Need-place-of-requires Inv-loop μ-loop
-place-of-requires c κs = search needs
+period-place-requires : tie.Need-period-place-requires Inv-loop μ-loop
+period-place-requires c κs = search needs
 
 mul-budgets : tie.Need-mul-budgets Inv-loop μ-loop
 mul-budgets c = search needs
@@ -48,7 +48,7 @@ add-budgets c =
     let a = c .before .before .before .before .before .before .before .before .before .before in
     let l = c .before .before .before .before .before .before .before .before .before .loop in
     let known : l .j < a .args .t1 .count = omega arith in
-    omega (arith, l .inv .budgets-most (c .before .before .before .place-of .result) (c .before .before .if2 .taken), place-allowed (a .pre .0) (l .j) known, a .pre .0 .count-most)
+    omega (arith, l .inv .budgets-most (c .before .before .before .period-place .result) (c .before .before .if2 .taken), place-allowed (a .pre .0) (l .j) known, a .pre .0 .count-most)
 
 element-write-budgets : tie.Need-element-write-budgets Inv-loop μ-loop
 element-write-budgets c = search needs
@@ -97,8 +97,8 @@ returns c =
     let all : l .j ≡ a .args .t1 .count = omega (arith, l .inv .so-far) in
     gather-level (a .pre .0) (a .args .i) (a .pre .1 .0) (subst (GatheredTo (a .args .t1) (a .args .i) (l .periods) (l .budgets) (l .size)) all (l .inv))
 
-pub gather-spec : {M : Type 1} → statement M
-gather-spec =
+pub gather-level-spec : {M : Type 1} → statement M
+gather-level-spec =
     tie.close
     (tie.spec
     Inv-loop
@@ -109,7 +109,7 @@ gather-spec =
     loop-holds
     mul-t
     element-copy-out-t
-    place-of-requires
+    period-place-requires
     mul-budgets
     element-copy-out-budgets
     add-budgets

@@ -6,7 +6,7 @@ use lib.ListN.{length, getD, set}
 use lib.Seq.{sets, length-sets}
 use Rattle.bits.specs.Bits.{listOf}
 use Rattle.theory.specs.Model.Schedule.{none}
-use Rattle.bellkettle.specs.Endings.{sets-more}
+use Rattle.bellkettle.specs.FieldLaws.{sets-more}
 use borrow.Author.Needs.{needs}
 use Rattle.bellkettle.proofs.spread.Statement.{statement}
 use Rattle.bellkettle.proofs.spread.Tie as tie

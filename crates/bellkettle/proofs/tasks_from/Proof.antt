@@ -7,7 +7,7 @@ use Rattle.bits.specs.Bits.{listOf}
 use Rattle.theory.specs.Model.Schedule.{none}
 use Rattle.sheet.specs.Calls.{places}
 use Rattle.sheet.specs.PlaceLaws.{places-set, places-most}
-use Rattle.bellkettle.specs.Answer.{taskFrom}
+use Rattle.bellkettle.specs.Fields.{taskFrom}
 use borrow.Author.Needs.{needs}
 use Rattle.bellkettle.proofs.tasks_from.Statement.{statement}
 use Rattle.bellkettle.proofs.tasks_from.Tie as tie

@@ -1,0 +1,38 @@
+-- Laws of places that are filled one after the other, and of the size of a sheet.
+use mathlib.Core.Path.{_≡_, sym, ap, _∙_}
+use mathlib.Core.List.{List}
+use Prim.Native.Nat.{ℕ, zero, suc, _+_, _≤_}
+use native.Mathlib.Omega.{arith}
+use lib.Dec.{ltb}
+use lib.ListN.{set}
+use lib.Seq.{sets}
+use Rattle.bits.specs.Bits.{listOf}
+use Rattle.answers.specs.Answers.{when}
+use Rattle.answers.specs.AnswerLaws.{also-given}
+use Rattle.sheet.specs.declared.Sheet.{Sheet}
+use Rattle.sheet.specs.declared.Written.{Written}
+use Rattle.sheet.specs.declared.Written.the-variants.{Bytes, No as NoBytes}
+use Rattle.sheet.specs.Calls.{judgeOf, sizeOf, writeOf}
+use Rattle.sheet.specs.Sound.{judged-sound}
+use Rattle.sheet.specs.Told.{toldBytes}
+use Rattle.bellkettle.specs.Replies.{sizeIn}
+
+sets-from : {A : Type 0} (at i : ℕ) (f : ℕ → A) (old : List A) → set (sets old at (listOf i f)) (at + i) (f i) ≡ sets old at (listOf (suc i) f)
+unfolding listOf
+sets-from at zero f old = ap (λ k. set old k (f 0)) (omega arith)
+sets-from at (suc i) f old =
+    ap (λ k. set (sets (set old at (f 0)) (suc at) (listOf i (λ j. f (suc j)))) k (f (suc i))) (omega arith) ∙ sets-from (suc at) i (λ j. f (suc j)) (set old at (f 0))
+
+pub sets-more : {A : Type 0} (i : ℕ) (f : ℕ → A) (old : List A) → set (sets old 0 (listOf i f)) i (f i) ≡ sets old 0 (listOf (i + 1) f)
+sets-more i f old = ap (λ k. set (sets old 0 (listOf i f)) k (f i)) (omega arith) ∙ sets-from 0 i f old ∙ ap (λ k. sets old 0 (listOf k f)) (omega arith)
+
+-- A sheet that is written takes at most 94 bytes.
+pub size-most : (s : Sheet) (room : ℕ) (w : Written) → toldBytes w ≡ writeOf s room → sizeIn w ≤ 94
+unfolding writeOf
+size-most s room (Bytes n) e =
+    let judged = also-given (judgeOf s) _ (sym e) in
+    let fits = also-given (when (ltb room (sizeOf s)) 14) _ (judged .1) in
+    let size : sizeOf s ≡ n = cc (fits .1) in
+    let sound = judged-sound s (judged .0) in
+    omega (arith, size, sound .count-most, sound .length-most)
+size-most s room (NoBytes r) e = omega arith

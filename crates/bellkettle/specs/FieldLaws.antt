@@ -4,8 +4,8 @@ use mathlib.Core.List.{List}
 use Prim.Native.Nat.{ℕ, zero, suc, _+_, _≤_}
 use native.Mathlib.Omega.{arith}
 use lib.Dec.{ltb}
-use lib.ListN.{set}
-use lib.Seq.{sets}
+use lib.ListN.{length, set}
+use lib.Seq.{sets, length-sets}
 use Rattle.bits.specs.Bits.{listOf}
 use Rattle.answers.specs.Answers.{when}
 use Rattle.answers.specs.AnswerLaws.{also-given}
@@ -23,8 +23,15 @@ sets-from at zero f old = ap (λ k. set old k (f 0)) (omega arith)
 sets-from at (suc i) f old =
     ap (λ k. set (sets (set old at (f 0)) (suc at) (listOf i (λ j. f (suc j)))) k (f (suc i))) (omega arith) ∙ sets-from (suc at) i (λ j. f (suc j)) (set old at (f 0))
 
-pub sets-more : {A : Type 0} (i : ℕ) (f : ℕ → A) (old : List A) → set (sets old 0 (listOf i f)) i (f i) ≡ sets old 0 (listOf (i + 1) f)
-sets-more i f old = ap (λ k. set (sets old 0 (listOf i f)) k (f i)) (omega arith) ∙ sets-from 0 i f old ∙ ap (λ k. sets old 0 (listOf k f)) (omega arith)
+-- one place more
+pub filled-more : {A : Type 0} (i : ℕ) (f : ℕ → A) (old : List A) {now next : List A}
+    → next ≡ set now i (f i) → now ≡ sets old 0 (listOf i f) → next ≡ sets old 0 (listOf (i + 1) f)
+filled-more i f old e h =
+    e ∙ ap (λ l. set l i (f i)) h ∙ ap (λ k. set (sets old 0 (listOf i f)) k (f i)) (omega arith) ∙ sets-from 0 i f old ∙ ap (λ k. sets old 0 (listOf k f)) (omega arith)
+
+-- no place is made
+pub filled-length : {A : Type 0} (i : ℕ) (f : ℕ → A) (old : List A) {now : List A} → now ≡ sets old 0 (listOf i f) → length now ≡ length old
+filled-length i f old h = ap length h ∙ length-sets old 0 (listOf i f)
 
 -- A sheet that is written takes at most 94 bytes.
 pub size-most : (s : Sheet) (room : ℕ) (w : Written) → toldBytes w ≡ writeOf s room → sizeIn w ≤ 94

@@ -48,6 +48,7 @@ SheetRead bytes returned old-values values old-periods periods old-budgets budge
 abbrev pub sizeFor : Sheet → ℕ → Answer (List ℤ)
 sizeFor s room = inNumbers alone (writeOf s room)
 
-abbrev pub SheetWritten : Sheet → ℕ → List ℤ → List ℤ → List ℕ → List ℕ → Type 0
-SheetWritten s returned old-values values old out =
+abbrev pub SheetWritten : List ℕ → List ℕ → List ℕ → List ℕ → ℕ → List ℤ → List ℤ → List ℕ → List ℕ → Type 0
+SheetWritten periods budgets ranks chain returned old-values values old out =
+    let s = sheetFrom periods budgets ranks chain in
     Returned (sizeFor s (length old)) returned old-values values × (out ≡ bufferAfter (writeOf s (length old)) s old)

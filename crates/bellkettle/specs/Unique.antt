@@ -3,10 +3,8 @@ use mathlib.Core.Path.{_≡_, sym, _∙_}
 use mathlib.Core.List.{List}
 use Prim.Native.Nat.{ℕ}
 use lib.IntN.{ℤ}
-use Rattle.answers.specs.Answers.{Answer}
 use Rattle.bellkettle.specs.declared.Question.{Question}
-use Rattle.bellkettle.specs.Fields.{sheetFrom}
-use Rattle.bellkettle.specs.Promises.{Returned, SheetAsked, SheetRead, SheetWritten}
+use Rattle.bellkettle.specs.Promises.{SheetAsked, SheetRead, SheetWritten}
 
 -- Two ends that meet a call's promise are equal: the returned numbers x and y, the values v and w, what is left in the other slices.
 
@@ -25,6 +23,6 @@ module _ (bytes : List ℕ) (x y : ℕ) (values v w : List ℤ) where
       ((same (g .0 .0) (h .0 .0), same (g .0 .1) (h .0 .1)), same (g .1) (h .1), same (g .2) (h .2), same (g .3) (h .3), same (g .4) (h .4))
 
 pub write-unique : (periods budgets ranks chain : List ℕ) (x y : ℕ) (values v w : List ℤ) (out t u : List ℕ)
-    → SheetWritten (sheetFrom periods budgets ranks chain) x values v out t → SheetWritten (sheetFrom periods budgets ranks chain) y values w out u
+    → SheetWritten periods budgets ranks chain x values v out t → SheetWritten periods budgets ranks chain y values w out u
     → ((x ≡ y) × (v ≡ w)) × (t ≡ u)
 write-unique periods budgets ranks chain x y values v w out t u p q = ((same (p .0 .0) (q .0 .0), same (p .0 .1) (q .0 .1)), same (p .1) (q .1))

@@ -574,7 +574,7 @@ pub extern "C" fn bellkettle_write(
     out: &mut [u8],
     values: &mut [i64],
 ) -> u8
-    ensures { λ r. ⌜ SheetWritten (sheetFrom (now (periods .entry)) (now (budgets .entry)) (now (ranks .entry)) (now (chain .entry))) r (now (values .entry)) (now (values .exit)) (now (out .entry)) (now (out .exit)) ⌝ }
+    ensures { λ r. ⌜ SheetWritten (now (periods .entry)) (now (budgets .entry)) (now (ranks .entry)) (now (chain .entry)) r (now (values .entry)) (now (values .exit)) (now (out .entry)) (now (out .exit)) ⌝ }
 {
     let s = sheet_from(periods, budgets, ranks, chain);
     let written = sheet::write(s, &mut *out);

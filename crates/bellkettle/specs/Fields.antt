@@ -9,7 +9,6 @@ use Rattle.bits.specs.Bits.{listOf}
 use Rattle.theory.specs.declared.Task.{Task}
 use Rattle.theory.specs.Model.Schedule.{none}
 use Rattle.sheet.specs.declared.Sheet.{Sheet}
-use Rattle.sheet.specs.Calls.{places}
 
 -- T, C and rank of each task, and the chain's entries.
 abbrev pub periodsIn : Sheet → ℕ → ℕ
@@ -40,11 +39,14 @@ tasksCounted periods budgets ranks =
 abbrev pub taskFrom : List ℕ → List ℕ → List ℕ → ℕ → Task
 taskFrom periods budgets ranks i = record { period = getD periods i 0; budget = getD budgets i 0; rank = getD ranks i 0 }
 
+abbrev pub entryFrom : List ℕ → ℕ → ℕ
+entryFrom chain i = getD chain i 0
+
 abbrev pub sheetFrom : List ℕ → List ℕ → List ℕ → List ℕ → Sheet
 sheetFrom periods budgets ranks chain =
     record {
-      tasks = places none (tasksCounted periods budgets ranks) (taskFrom periods budgets ranks);
-      chain = places 0 (counted (length chain)) (λ i. getD chain i 0);
+      tasks = listOf 16 (taskFrom periods budgets ranks);
+      chain = listOf 16 (entryFrom chain);
       count = tasksCounted periods budgets ranks;
       length = counted (length chain);
     }

@@ -16,18 +16,17 @@ use sheet::Sheet;
 use sheet::Written;
 use theory::Task;
 ghost use mathlib.Core.Path.{_≡_};
-ghost use Prim.Native.Nat.{_≤_, min};
+ghost use Prim.Native.Nat.{_≤_};
 ghost use lib.IntN.{pos};
 ghost use lib.ListN.{length, getD, set};
 ghost use lib.Seq.{sets};
-ghost use Rattle.theory.specs.Model.Schedule.{none};
+ghost use Rattle.bits.specs.Bits.{listOf};
 ghost use Rattle.answers.specs.Answers.{given, refusal};
-ghost use Rattle.sheet.specs.Calls.{places};
 ghost use Rattle.sheet.specs.Told.{toldBytes};
 ghost use Rattle.schedule.specs.Answer.{tasksOf, toldTotals};
 ghost use Rattle.chain.specs.Answer.{leaves, toldDelay, toldWorst, toldBound, toldMargin, toldFigures};
 ghost use Rattle.bellkettle.specs.Numbers.{inNumbers, alone, signed, totalsNumbers, figureNumbers, summaryNumbers, countNumbers, answerTo};
-ghost use Rattle.bellkettle.specs.Fields.{periodsIn, budgetsIn, ranksIn, entriesIn, sixteen, counted, tasksCounted, taskFrom, sheetFrom};
+ghost use Rattle.bellkettle.specs.Fields.{periodsIn, budgetsIn, ranksIn, entriesIn, sixteen, counted, tasksCounted, taskFrom, entryFrom, sheetFrom};
 ghost use Rattle.bellkettle.specs.Promises.{SheetAsked, SheetRead, SheetWritten};
 ghost use Rattle.bellkettle.specs.Replies.{valuesIn, Tells, delayRefusal, worstRefusal, boundRefusal, marginRefusal, figuresRefusal, writtenRefusal, sizeIn};
 
@@ -493,16 +492,6 @@ fn byte_at(bytes: &[u8], i: usize) -> u8
     0
 }
 
-// The places that are taken of sixteen.
-fn taken(k: u8) -> u8
-    ensures { λ r. ⌜ r ≡ min k 16 ⌝ }
-{
-    if k < 16 {
-        return k;
-    }
-    16
-}
-
 fn task_from(periods: &[u32], budgets: &[u32], ranks: &[u8], i: usize) -> Task
     ensures { λ r. ⌜ r ≡ taskFrom (now (periods .entry)) (now (budgets .entry)) (now (ranks .entry)) i ⌝ }
 {
@@ -516,8 +505,8 @@ fn task_from(periods: &[u32], budgets: &[u32], ranks: &[u8], i: usize) -> Task
     }
 }
 
-fn tasks_from(periods: &[u32], budgets: &[u32], ranks: &[u8], n: u8) -> [Task; 16]
-    ensures { λ r. ⌜ r ≡ places none n (taskFrom (now (periods .entry)) (now (budgets .entry)) (now (ranks .entry))) ⌝ }
+fn tasks_from(periods: &[u32], budgets: &[u32], ranks: &[u8]) -> [Task; 16]
+    ensures { λ r. ⌜ r ≡ listOf 16 (taskFrom (now (periods .entry)) (now (budgets .entry)) (now (ranks .entry))) ⌝ }
 {
     let blank = Task {
         period: 0,
@@ -525,25 +514,21 @@ fn tasks_from(periods: &[u32], budgets: &[u32], ranks: &[u8], n: u8) -> [Task; 1
         rank: 0,
     };
     let mut tasks = [blank; 16];
-    let end = taken(n);
-    let mut i = 0u8;
-    while i < end {
-        let k = i as usize;
-        tasks[k] = task_from(periods, budgets, ranks, k);
+    let mut i = 0usize;
+    while i < 16 {
+        tasks[i] = task_from(periods, budgets, ranks, i);
         i += 1;
     }
     tasks
 }
 
-fn chain_from(chain: &[u8], m: u8) -> [u8; 16]
-    ensures { λ r. ⌜ r ≡ places 0 m (λ i. getD (now (chain .entry)) i 0) ⌝ }
+fn chain_from(chain: &[u8]) -> [u8; 16]
+    ensures { λ r. ⌜ r ≡ listOf 16 (entryFrom (now (chain .entry))) ⌝ }
 {
     let mut entries = [0u8; 16];
-    let end = taken(m);
-    let mut i = 0u8;
-    while i < end {
-        let k = i as usize;
-        entries[k] = byte_at(chain, k);
+    let mut i = 0usize;
+    while i < 16 {
+        entries[i] = byte_at(chain, i);
         i += 1;
     }
     entries
@@ -552,15 +537,15 @@ fn chain_from(chain: &[u8], m: u8) -> [u8; 16]
 fn sheet_from(periods: &[u32], budgets: &[u32], ranks: &[u8], chain: &[u8]) -> Sheet
     ensures { λ r. ⌜ r ≡ sheetFrom (now (periods .entry)) (now (budgets .entry)) (now (ranks .entry)) (now (chain .entry)) ⌝ }
 {
-    let n = tasks_counted(periods, budgets, ranks);
-    let m = few(chain.len());
-    let tasks = tasks_from(periods, budgets, ranks, n);
-    let entries = chain_from(chain, m);
+    let tasks = tasks_from(periods, budgets, ranks);
+    let entries = chain_from(chain);
+    let count = tasks_counted(periods, budgets, ranks);
+    let length = few(chain.len());
     Sheet {
         tasks,
         chain: entries,
-        count: n,
-        length: m,
+        count,
+        length,
     }
 }
 

@@ -32,8 +32,9 @@ returns : tie.Need-returns
 returns c =
     let refusing = c .before .before .before in
     let judged = refusing .before .before in
-    let r = judged .before .before .read in
-    let start = judged .before .before .before .before .before in
+    let reading = judged .before .before in
+    let r = reading .read in
+    let start = reading .before .before .before in
     let no = judged .enum-told2 .given .1 in
     rw (read-no (start .args .sheet .now) (r .result) (r .ensures .0) no)
     (told-returned (start .args .values .now) (tells-as (refusing .refuse .ensures) (ap refusal (refusal-is (refusing .before .refusal-of .ensures) no))) (c .before .hand .ensures), refl)
@@ -52,12 +53,14 @@ same-length-3 c = search needs
 
 returns-2 : tie.Need-returns-2
 returns-2 c =
-    let answered = c .before .before .before .before .before in
+    let handing = c .before in
+    let answered = handing .before .before .before .before in
     let judged = answered .before .before in
-    let r = judged .before .before .read in
-    let start = judged .before .before .before .before .before in
+    let reading = judged .before .before in
+    let r = reading .read in
+    let start = reading .before .before .before in
     rw (read-fine (start .args .sheet .now) (r .result) (r .ensures .0) (judged .enum-told .given .1))
-    (told-returned (start .args .values .now) (answered .answer .ensures .0) (c .before .hand2 .ensures), answered .answer .ensures .1)
+    (told-returned (start .args .values .now) (answered .answer .ensures .0) (handing .hand2 .ensures), answered .answer .ensures .1)
 
 pub ask-spec : {M : Type 1} → statement M
 ask-spec =

@@ -32,8 +32,10 @@ returns : tie.Need-returns
 returns c =
     let refusing = c .before .before .before in
     let judged = refusing .before .before in
-    let r = judged .before .before .read in
-    let start = judged .before .before .before .before .before .before .before .before in
+    let reading = judged .before .before in
+    let r = reading .read in
+    let lent = reading .before .before .before in
+    let start = lent .before .before .before in
     let no = judged .enum-told2 .given .1 in
     rw (read-no (start .args .sheet .now) (r .result) (r .ensures .0) no)
     (told-returned (start .args .values .now) (tells-as (refusing .refuse .ensures) (ap refusal (refusal-is (refusing .before .refusal-of .ensures) no))) (c .before .hand .ensures), refl, refl, refl, refl)
@@ -65,11 +67,16 @@ same-length-6 c = search needs
 returns-2 : tie.Need-returns-2
 returns-2 c =
     let counted = c .before .before .before in
-    let spreading = counted .before .before .before .before .before .before .before .before .before in
+    let back = counted .before .before .before .before in
+    let spread = back .before .before .before .before in
+    let spreading = spread .before in
     let fields = spreading .spread .ensures in
-    let judged = spreading .before .before .before .before .before .before in
-    let r = judged .before .before .read in
-    let start = judged .before .before .before .before .before .before .before .before in
+    let lending = spreading .before .before .before in
+    let judged = lending .before .before .before in
+    let reading = judged .before .before in
+    let r = reading .read in
+    let lent = reading .before .before .before in
+    let start = lent .before .before .before in
     rw (read-fine (start .args .sheet .now) (r .result) (r .ensures .0) (judged .enum-told .given .1)) (
       told-returned (start .args .values .now) (counted .count-numbers .ensures) (c .before .hand2 .ensures),
       fields .0,

@@ -19,7 +19,8 @@ write-requires c κs = search needs
 written-reply-requires : tie.Need-written-reply-requires
 written-reply-requires c κs =
     let made = c .before .before .before .before in
-    let start = made .before .before .before .before .before .before in
+    let lent = made .before .before .before in
+    let start = lent .before .before .before in
     let w = c .before .before .write in
     size-most (made .sheet-from .result) (length (start .args .out .now)) (w .result) (w .ensures .0)
 
@@ -35,10 +36,12 @@ same-length-2 c = search needs
 returns : tie.Need-returns
 returns c =
     let told = c .before .before .before in
-    let w = told .before .before .before .write in
-    let made = told .before .before .before .before .before in
+    let writing = told .before .before .before in
+    let w = writing .write in
+    let made = writing .before .before in
     let s = made .sheet-from in
-    let a = made .before .before .before .before .before .before .args in
+    let lent = made .before .before .before in
+    let a = lent .before .before .before .args in
     let room = length (a .out .now) in (
       told-returned (a .values .now) (tells-as (told .written-reply .ensures) (ap (inNumbers alone) (w .ensures .0) ∙ ap (λ x. sizeFor x room) (s .ensures))) (c .before .hand .ensures),
       w .ensures .1 ∙ ap (λ x. bufferAfter x (s .result) (a .out .now)) (w .ensures .0) ∙ ap (λ x. bufferAfter (writeOf x room) x (a .out .now)) (s .ensures),

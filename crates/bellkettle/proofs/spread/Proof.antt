@@ -59,7 +59,8 @@ loop-less c = search needs
 loop-again : tie.Need-loop-again Inv-loop μ-loop
 loop-again c =
     let entry = c .before .before in
-    let rank = entry .before .before .before .before .before in
+    let out = entry .before in
+    let rank = out .before .before .before .before in
     let budget = rank .before .before .before .before in
     let period = budget .before .before .before .before in
     let turn = period .before .before .before .before in

@@ -1,5 +1,5 @@
 -- The answers case by case: what each is given for, and what is known where it is given.
-use mathlib.Core.Path.{_≡_}
+use mathlib.Core.Path.{_≡_, sym, ap, _∙_}
 use mathlib.Core.List.{[], _∷_}
 use Prim.Native.Nat.{ℕ, _≤_, _<_}
 use lib.Dec.{ltb}
@@ -8,13 +8,25 @@ use borrow.Author.Tests.{ltb-false, lt-ltb, le-ltb}
 use Rattle.theory.specs.Model.Schedule.{idle, busy}
 use Rattle.theory.specs.Model.Responses.{hyperperiod, allJobs, idleTicks}
 use Rattle.answers.specs.declared.Refusal.{Refusal}
-use Rattle.answers.specs.Answers.{given, refused, fine, when, refusal}
+use Rattle.answers.specs.Answers.{Answer, given, refused, fine, when, refusal}
 use Rattle.answers.specs.AnswerLaws.{when-fine, also-given}
 use Rattle.sheet.specs.declared.Sheet.{Sheet}
 use Rattle.sheet.specs.Calls.{judgeOf}
 use Rattle.sheet.specs.Tasks.{tasksOf}
+use Rattle.schedule.specs.declared.answer.Totals.{Totals}
+use Rattle.schedule.specs.declared.answer.Responses.{Responses}
+use Rattle.schedule.specs.declared.answer.Responses.the-variants.{No}
 use Rattle.schedule.specs.declared.answer.Size.{Size}
-use Rattle.schedule.specs.Calls.{mostTicks, mostJobs, lateGreatest, sizesOf, responsesOf}
+use Rattle.schedule.specs.declared.answer.Sizes.{Sizes}
+use Rattle.schedule.specs.declared.answer.Sizes.the-variants.{No as NoSize}
+use Rattle.schedule.specs.Calls.{mostTicks, mostJobs, lateGreatest, sizesOf, responsesOf, toldSize, toldTotals, sizesRefusal, responsesRefusal}
+
+-- "a refusal met on the way is handed up unchanged": what is handed up is the refusal that the answer holds.
+pub sizes-no : {z : Sizes} {r q : Refusal} {x : Answer Size} → toldSize z ≡ x → z ≡ NoSize r → q ≡ sizesRefusal z → x ≡ refusal q
+sizes-no e q h = sym e ∙ ap toldSize q ∙ ap refusal (sym (h ∙ ap sizesRefusal q))
+
+pub responses-no : {a : Responses} {r q : Refusal} {x : Answer Totals} → toldTotals a ≡ x → a ≡ No r → q ≡ responsesRefusal a → x ≡ refusal q
+responses-no e q h = sym e ∙ ap toldTotals q ∙ ap refusal (sym (h ∙ ap responsesRefusal q))
 
 -- H and J
 

@@ -9,7 +9,8 @@ use Rattle.theory.specs.Model.Responses.{hyperperiod}
 use Rattle.answers.specs.Answers.{given, refusal}
 use Rattle.sheet.specs.Sound.{Sound}
 use Rattle.sheet.specs.Tasks.{tasksOf, chainOf}
-use Rattle.schedule.specs.Calls.{responsesOf, toldTotals, responsesRefusal}
+use Rattle.schedule.specs.Calls.{responsesOf, toldTotals}
+use Rattle.schedule.specs.CallLaws.{responses-no}
 use Rattle.schedule.specs.Results.{Taken}
 use Rattle.schedule.specs.RowLaws.{Holds}
 use Rattle.chain.specs.declared.answer.Summary.{Summary}
@@ -59,7 +60,7 @@ returns c =
     let r = c .before .before .before .before .before .before .task-responses in
     let no = c .before .enum-told .given .1 in
     let ended = answers-no (a .s) (a .table .now) _ (c .responses-refusal .result)
-    (sym (r .ensures .0 .0) ∙ ap toldTotals no ∙ ap refusal (sym (c .responses-refusal .ensures ∙ ap responsesRefusal no)))
+    (responses-no (r .ensures .0 .0) no (c .responses-refusal .ensures))
     (r .ensures .0 .1) in
     (ended, r .ensures .1)
 

@@ -70,7 +70,9 @@ response-of-requires : tie.Need-response-of-requires
 response-of-requires c κs = search needs
 
 add-ready : tie.Need-add-ready
-add-ready c = omega (arith, release-most (c .before .before .before .before .before .before), c .response-of .ensures, row-most (c .before .before .before .before .before .before .pre .0 .row) (c .before .before .before .before .before .before .args .k))
+add-ready c =
+    let s = c .before .before .before .before .before .before in
+    omega (arith, release-most s, c .response-of .ensures, row-most (s .pre .0 .row) (s .args .k))
 
 mul-period : tie.Need-mul-period
 mul-period c = search needs
@@ -82,7 +84,7 @@ sub-job : tie.Need-sub-job
 sub-job c = search needs
 
 add-job : tie.Need-add-job
-add-job c = omega (arith, ready-near (c .before .before), c .before .before .before .before .before .before .before .pre .1 .0 .period-most)
+add-job c = omega (arith, ready-near (c .before .before), start (c .before .before) .pre .1 .0 .period-most)
 
 div-job : tie.Need-div-job
 div-job c = search needs

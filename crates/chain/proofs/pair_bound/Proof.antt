@@ -33,8 +33,15 @@ module _ (s : tie.Start) where
     s .pre .1 .period-most,
   )
 
-up-is : (c : tie.After-up) → let s = c .before .before .before .before .before .before .before .before .before .before in c .up .result ≡ up (g s) (R s)
-up-is c = c .up .ensures ∙ ap₂ up (c .before .before .before .before .before .before .gcd .ensures) (c .before .task-response .ensures)
+-- The start, and the greatest common divisor, where the least multiple of it is found.
+abbrev start : tie.After-up → tie.Start
+start c = c .before .before .before .before .before .before .before .before .before .before
+
+abbrev divisor : tie.After-up → tie.After-gcd
+divisor c = c .before .before .before .before .before .before
+
+up-is : (c : tie.After-up) → let s = start c in c .up .result ≡ up (g s) (R s)
+up-is c = c .up .ensures ∙ ap₂ up (divisor c .gcd .ensures) (c .before .task-response .ensures)
 
 mul-gcd : tie.Need-mul-gcd
 mul-gcd c = search needs
@@ -73,18 +80,18 @@ up-requires : tie.Need-up-requires
 up-requires c κs = search needs
 
 cast-ticks : tie.Need-cast-ticks
-cast-ticks c = omega (arith, up-is c, up-most (c .before .before .before .before .before .before .before .before .before .before))
+cast-ticks c = omega (arith, up-is c, up-most (start c))
 
 add-ticks : tie.Need-add-ticks
 add-ticks c =
-    let s = c .before .before .before .before .before .before .before .before .before .before in
+    let s = start c in
     omega (arith, up-is c, up-most s, s .pre .1 .period-most)
 
 returns : tie.Need-returns
 returns c =
-    let s = c .before .before .before .before .before .before .before .before .before .before in
+    let s = start c in
     rw (pair-in (s .args .ranks .now) (s .pre .0) (s .pre .1), lt-ltb _ _ (c .before .before .if1 .taken))
-    (ap₂ (λ x y. (getD (s .args .periods .now) (s .args .c) 0 - x) + y) (c .before .before .before .before .before .before .gcd .ensures) (up-is c))
+    (ap₂ (λ x y. (getD (s .args .periods .now) (s .args .c) 0 - x) + y) (divisor c .gcd .ensures) (up-is c))
 
 returns-2 : tie.Need-returns-2
 returns-2 c =

@@ -3,15 +3,26 @@ use mathlib.Core.Path.{_≡_, sym, ap, _∙_}
 use lib.ListN.{length}
 use borrow.Author.Needs.{needs}
 use Rattle.answers.specs.Answers.{given, refusal}
-use Rattle.schedule.specs.Calls.{responsesOf, toldTotals, responsesRefusal}
+use Rattle.schedule.specs.Calls.{responsesOf, toldTotals}
+use Rattle.schedule.specs.CallLaws.{responses-no}
 use Rattle.chain.specs.Calls.{worstOf}
 use Rattle.chain.specs.CallLaws.{answers-no, answers-given, filled-ready}
 use Rattle.chain.proofs.worst.Statement.{statement}
 use Rattle.chain.proofs.worst.Tie as tie
 
+-- The start, and the table as `responses` leaves it: before a refusal, and where it is filled.
+abbrev start : tie.After-responses → tie.Start
+start c = c .before .before .before
+
+abbrev refused : tie.After-enum-told → tie.After-responses
+refused c = c .before .before .before .before
+
+abbrev done : tie.After-filled → tie.After-responses
+done c = c .before .before .before .before
+
 -- The table is filled.
-filled : (c : tie.After-filled) → let a = c .before .before .before .before .before .before .before .args in responsesOf (a .s) (length (a .table .now)) ≡ given (c .filled .given .0 .0)
-filled c = sym (c .before .before .before .before .responses .ensures .0) ∙ ap toldTotals (c .filled .given .1)
+filled : (c : tie.After-filled) → let a = start (done c) .args in responsesOf (a .s) (length (a .table .now)) ≡ given (c .filled .given .0 .0)
+filled c = sym (done c .responses .ensures .0) ∙ ap toldTotals (c .filled .given .1)
 
 responses-requires : tie.Need-responses-requires
 responses-requires c κs = search needs
@@ -31,17 +42,17 @@ same-length c = search needs
 returns : tie.Need-returns
 unfolding worstOf
 returns c =
-    let a = c .before .before .before .before .before .before .before .before .args in
-    let r = c .before .before .before .before .before .responses in
+    let a = start (refused (c .before)) .args in
+    let r = refused (c .before) .responses in
     let no = c .before .enum-told .given .1 in
     answers-no (a .s) (a .table .now) _ (c .responses-refusal .result)
-    (sym (r .ensures .0) ∙ ap toldTotals no ∙ ap refusal (sym (c .responses-refusal .ensures ∙ ap responsesRefusal no)))
+    (responses-no (r .ensures .0) no (c .responses-refusal .ensures))
     (r .ensures .1)
 
 worst-in-requires : tie.Need-worst-in-requires
 worst-in-requires c κs =
-    let a = c .before .before .before .before .before .before .before .before .before .args in
-    filled-ready (a .s) (a .table .now) (filled (c .before .before)) (c .before .before .before .before .before .before .responses .ensures .1)
+    let a = start (done (c .before .before)) .args in
+    filled-ready (a .s) (a .table .now) (filled (c .before .before)) (done (c .before .before) .responses .ensures .1)
 
 same-length-2 : tie.Need-same-length-2
 same-length-2 c = search needs
@@ -49,8 +60,8 @@ same-length-2 c = search needs
 returns-2 : tie.Need-returns-2
 unfolding worstOf
 returns-2 c =
-    let a = c .before .before .before .before .before .before .before .before .before .before .args in
-    let r = c .before .before .before .before .before .before .before .responses in
+    let a = start (done (c .before .before .before)) .args in
+    let r = done (c .before .before .before) .responses in
     answers-given (a .s) (a .table .now) _ (filled (c .before .before .before)) (ap given (sym (c .worst-in .ensures)))
     (r .ensures .1)
 

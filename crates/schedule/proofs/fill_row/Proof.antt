@@ -6,6 +6,16 @@ use borrow.Author.Needs.{needs}
 use Rattle.schedule.proofs.fill_row.Statement.{statement}
 use Rattle.schedule.proofs.fill_row.Tie as tie
 
+-- The start and the gathered level, from where the row is lent to its walk; and that place, from the end.
+abbrev start : tie.After-walk-row-arg2 → tie.Start
+start c = c .before .before .before .before .before .before .before .before
+
+abbrev gathered : tie.After-walk-row-arg2 → tie.After-gather-level
+gathered c = c .before .before .before .before
+
+abbrev walked : tie.After-slice-known2 → tie.After-walk-row-arg2
+walked c = c .before .before .before
+
 gather-level-requires : tie.Need-gather-level-requires
 gather-level-requires c κs = search needs
 
@@ -17,8 +27,8 @@ element-copy-out-walk-row c = search needs
 
 walk-row-requires : tie.Need-walk-row-requires
 walk-row-requires c κs =
-    let a = c .before .before .before .before .before .before .before .before in
-    let g = c .before .before .before .before .gather-level .ensures in
+    let a = start c in
+    let g = gathered c .gather-level .ensures in
     (g .places, rw (← task-at (a .pre .0) (a .args .i) (a .pre .1 .1 .0), coming-load g, a .pre .1 .1 .1) (walkable (a .pre .0) (a .args .i) (a .pre .1 .1 .0) (a .pre .1 .0)))
 
 same-length : tie.Need-same-length
@@ -26,8 +36,8 @@ same-length c = search needs
 
 returns : tie.Need-returns
 returns c =
-    let a = c .before .before .before .before .before .before .before .before .before .before .before in
-    let g = c .before .before .before .before .before .before .before .gather-level .ensures in
+    let a = start (walked c) in
+    let g = gathered (walked c) .gather-level .ensures in
     let w = c .before .before .walk-row in
     row-filled (a .pre .0) (a .args .i) (a .pre .1 .1 .0) (a .pre .1 .0) (w .last .1 .1 .1 .1 .1 .0) (w .result) (w .kept .1 .1 .1 .1 .1 .0 ∙ a .pre .1 .1 .1) (rw (← task-at (a .pre .0) (a .args .i) (a .pre .1 .1 .0), coming-load g) at (w .ensures))
 

@@ -6,20 +6,42 @@ use Rattle.answers.specs.Answers.{given, refusal}
 use Rattle.sheet.specs.Sound.{Sound}
 use Rattle.sheet.specs.SoundLaws.{judged-sound}
 use Rattle.sheet.specs.Tasks.{tasksOf}
-use Rattle.schedule.specs.Calls.{sizesOf, toldSize, sizesRefusal}
-use Rattle.schedule.specs.CallLaws.{sizes-given}
+use Rattle.schedule.specs.Calls.{sizesOf, toldSize}
+use Rattle.schedule.specs.CallLaws.{sizes-no, sizes-given}
 use Rattle.schedule.specs.Conditions.{lateOf, Filled}
 use Rattle.schedule.proofs.Endings.{answers-refused, answers-small, answers-late, answers-full}
 use borrow.Author.Needs.{needs}
 use Rattle.schedule.proofs.responses.Statement.{statement}
 use Rattle.schedule.proofs.responses.Tie as tie
 
+-- The start, before a refusal and where H and J are known; where the room is judged; and the rows as they are walked, where a task is late and where none is.
+abbrev refused : tie.After-enum-told → tie.Start
+refused c = c .before .before .before .before
+
+abbrev start : tie.After-z → tie.Start
+start c = c .before .before .before .before
+
+abbrev sized : tie.Else1 → tie.After-z
+sized c = c .before .before .before
+
+abbrev judged : tie.After-fill-rows → tie.Else1
+judged c = c .before .before
+
+abbrev late : tie.After-enum-told2 → tie.After-fill-rows
+late c = c .before .before .before .before
+
+abbrev cleared : tie.After-found-refusal → tie.After-enum-told2
+cleared c = c .before .before .before .before .before
+
+abbrev full : tie.After-found → tie.After-fill-rows
+full c = c .before .before .before .before
+
 -- H and J are within their limits.
-fits : (c : tie.After-z) → sizesOf (c .before .before .before .before .args .s) ≡ given (c .z .given .0 .0)
+fits : (c : tie.After-z) → sizesOf (start c .args .s) ≡ given (c .z .given .0 .0)
 fits c = sym (c .before .before .sizes .ensures) ∙ ap toldSize (c .z .given .1)
 
-sound : (c : tie.After-z) → Sound (c .before .before .before .before .args .s)
-sound c = let s = c .before .before .before .before .args .s in judged-sound s (sizes-given s (fits c) .judged-fine)
+sound : (c : tie.After-z) → Sound (start c .args .s)
+sound c = let s = start c .args .s in judged-sound s (sizes-given s (fits c) .judged-fine)
 
 sizes-requires : tie.Need-sizes-requires
 sizes-requires c κs = search needs
@@ -36,8 +58,8 @@ sizes-refusal-requires c κs = search needs
 returns : tie.Need-returns
 returns c =
     let no = c .before .enum-told .given .1 in
-    answers-refused (c .before .before .before .before .before .args .s) (c .before .before .before .before .before .args .table .now) (c .sizes-refusal .result)
-    (sym (c .before .before .before .sizes .ensures) ∙ ap toldSize no ∙ ap refusal (sym (c .sizes-refusal .ensures ∙ ap sizesRefusal no)))
+    answers-refused (refused (c .before) .args .s) (refused (c .before) .args .table .now) (c .sizes-refusal .result)
+    (sizes-no (c .before .before .before .sizes .ensures) no (c .sizes-refusal .ensures))
 
 cast-jobs : tie.Need-cast-jobs
 cast-jobs c = search needs
@@ -45,7 +67,7 @@ cast-jobs c = search needs
 returns-2 : tie.Need-returns-2
 returns-2 c =
     let z = c .before .before .before in
-    answers-small _ (c .before .before .before .before .before .before .before .args .table .now) (fits z) (c .if1 .taken)
+    answers-small _ (start (c .before .before .before) .args .table .now) (fits z) (c .if1 .taken)
 
 fill-rows-requires : tie.Need-fill-rows-requires
 fill-rows-requires c κs =
@@ -61,33 +83,33 @@ enum-told-2 c = search needs
 
 clear-requires : tie.Need-clear-requires
 clear-requires c κs =
-    omega (arith, c .before .before .before .before .before .fill-rows .ensures .same-length, c .before .before .before .before .before .before .before .if1 .left)
+    omega (arith, late (c .before) .fill-rows .ensures .same-length, judged (late (c .before)) .if1 .left)
 
 found-refusal-requires : tie.Need-found-refusal-requires
 found-refusal-requires c κs = search needs
 
 same-length : tie.Need-same-length
-same-length c = c .before .before .before .clear .kept .0 ∙ c .before .before .before .before .before .before .before .before .before .fill-rows .kept .1 .1 .0
+same-length c = c .before .before .before .clear .kept .0 ∙ late (cleared c) .fill-rows .kept .1 .1 .0
 
 returns-3 : tie.Need-returns-3
 returns-3 c =
-    let a = c .before .before .before .before .before .before .before .before .before .before .before .before .before .before .before .before .before .before in
-    let z = c .before .before .before .before .before .before .before .before .before .before .before .before .before .before in
-    let r = c .before .before .before .before .before .before .before .before .before .fill-rows in
-    let late = c .before .before .before .before .before .enum-told2 .given .1 in
-    rw (c .found-refusal .ensures ∙ ap lateOf late, c .before .before .before .clear .ensures)
-    (answers-late (a .args .s) (a .args .table .now) (fits z) (sound z) (c .before .before .before .before .before .before .before .before .before .before .before .if1 .left)
-    (subst (Filled (tasksOf (a .args .s)) (a .args .s .count) (allJobs (tasksOf (a .args .s))) (a .args .table .now) (r .last .1 .1 .0)) late (r .ensures)))
+    let a = start (sized (judged (late (cleared c)))) in
+    let z = sized (judged (late (cleared c))) in
+    let r = late (cleared c) .fill-rows in
+    let is = cleared c .enum-told2 .given .1 in
+    rw (c .before .before .before .clear .ensures, c .found-refusal .ensures ∙ ap lateOf is)
+    (answers-late (a .args .s) (a .args .table .now) (fits z) (sound z) (judged (late (cleared c)) .if1 .left)
+    (subst (Filled (tasksOf (a .args .s)) (a .args .s .count) (allJobs (tasksOf (a .args .s))) (a .args .table .now) (r .last .1 .1 .0)) is (r .ensures)))
 
 same-length-2 : tie.Need-same-length-2
-same-length-2 c = c .before .before .before .before .before .fill-rows .kept .1 .1 .0
+same-length-2 c = full (c .before) .fill-rows .kept .1 .1 .0
 
 returns-4 : tie.Need-returns-4
 returns-4 c =
-    let a = c .before .before .before .before .before .before .before .before .before .before .before .before .before .before in
-    let z = c .before .before .before .before .before .before .before .before .before .before in
-    let r = c .before .before .before .before .before .fill-rows in
-    answers-full (a .args .s) (a .args .table .now) (fits z) (sound z) (c .before .before .before .before .before .before .before .if1 .left)
+    let a = start (sized (judged (full (c .before)))) in
+    let z = sized (judged (full (c .before))) in
+    let r = full (c .before) .fill-rows in
+    answers-full (a .args .s) (a .args .table .now) (fits z) (sound z) (judged (full (c .before)) .if1 .left)
     (subst (Filled (tasksOf (a .args .s)) (a .args .s .count) (allJobs (tasksOf (a .args .s))) (a .args .table .now) (r .last .1 .1 .0)) (c .before .found .given .1) (r .ensures))
 
 pub responses-spec : {M : Type 1} → statement M

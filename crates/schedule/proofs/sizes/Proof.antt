@@ -14,6 +14,13 @@ use borrow.Author.Needs.{needs}
 use Rattle.schedule.proofs.sizes.Statement.{statement}
 use Rattle.schedule.proofs.sizes.Tie as tie
 
+-- Where the sheet is judged fine, and where the hyperperiod is worked out.
+abbrev judged : tie.After-hyperperiod → tie.After-judge
+judged c = c .before .before .before
+
+abbrev multiple : tie.After-known-told → tie.After-hyperperiod
+multiple c = c .before .before .before
+
 -- A sheet whose verdict is fine.
 fine-then : (c : tie.After-judge) → c .judge .result ≡ Fine → judgeOf (c .before .args .s) ≡ fine
 fine-then c e = sym (c .judge .ensures) ∙ ap told e
@@ -50,26 +57,26 @@ enum-told-3 c = search needs
 
 returns-2 : tie.Need-returns-2
 returns-2 c =
-    let a = c .before .before .before .before .before .before in
-    sym (sizes-over (a .args .s) (fine-then (c .before .before .before .before .before) (c .before .before .before .enum-told .given .1)) (told-over mostTicks _ (c .before .before .hyperperiod .ensures) (c .enum-told3 .given .1)))
+    let a = judged (c .before .before) .before in
+    sym (sizes-over (a .args .s) (fine-then (judged (c .before .before)) (c .before .before .before .enum-told .given .1)) (told-over mostTicks _ (c .before .before .hyperperiod .ensures) (c .enum-told3 .given .1)))
 
 job-count-requires : tie.Need-job-count-requires
 job-count-requires c κs =
-    let is = told-is mostTicks _ (c .before .before .before .hyperperiod .ensures) (c .before .m .given .1) in
-    (sound (c .before .before .before .before .before .before) (c .before .before .before .before .enum-told .given .1), record { is-hyperperiod = is .0; within-limit = omega (arith, is) })
+    let is = told-is mostTicks _ (multiple c .hyperperiod .ensures) (c .before .m .given .1) in
+    (sound (judged (multiple c)) (multiple c .before .enum-told .given .1), record { is-hyperperiod = is .0; within-limit = omega (arith, is) })
 
 returns-3 : tie.Need-returns-3
 returns-3 c =
-    let e = c .before .before .before .before .before .before .enum-told .given .1 in
-    let is = told-is mostTicks _ (c .before .before .before .before .before .hyperperiod .ensures) (c .before .before .before .m .given .1) in
-    sym (sizes-many _ (fine-then (c .before .before .before .before .before .before .before .before) e) (is .1) (omega (arith, c .if1 .taken, c .before .job-count .ensures)))
+    let e = multiple (c .before .before) .before .enum-told .given .1 in
+    let is = told-is mostTicks _ (multiple (c .before .before) .hyperperiod .ensures) (c .before .before .before .m .given .1) in
+    sym (sizes-many _ (fine-then (judged (multiple (c .before .before))) e) (is .1) (omega (arith, c .if1 .taken, c .before .job-count .ensures)))
 
 returns-4 : tie.Need-returns-4
 returns-4 c =
-    let e = c .before .before .before .before .before .before .enum-told .given .1 in
-    let is = told-is mostTicks _ (c .before .before .before .before .before .hyperperiod .ensures) (c .before .before .before .m .given .1) in
+    let e = multiple (c .before .before) .before .enum-told .given .1 in
+    let is = told-is mostTicks _ (multiple (c .before .before) .hyperperiod .ensures) (c .before .before .before .m .given .1) in
     ap₂ (λ x y. given (record { hyperperiod = x; jobs = y })) (is .0) (c .before .job-count .ensures)
-    ∙ sym (sizes-fit _ (fine-then (c .before .before .before .before .before .before .before .before) e) (is .1) (omega (arith, c .if1 .left, c .before .job-count .ensures)))
+    ∙ sym (sizes-fit _ (fine-then (judged (multiple (c .before .before))) e) (is .1) (omega (arith, c .if1 .left, c .before .job-count .ensures)))
 
 pub sizes-spec : {M : Type 1} → statement M
 sizes-spec =

@@ -14,6 +14,16 @@ use borrow.Author.Needs.{needs}
 use Rattle.schedule.proofs.task_responses.Statement.{statement}
 use Rattle.schedule.proofs.task_responses.Tie as tie
 
+-- The start, and the table as `responses` leaves it: before a refusal, and where it is filled.
+abbrev start : tie.After-responses → tie.Start
+start c = c .before .before .before
+
+abbrev refused : tie.After-enum-told → tie.After-responses
+refused c = c .before .before .before .before
+
+abbrev done : tie.After-answer → tie.After-responses
+done c = c .before .before .before .before
+
 -- a refusal leaves zeros
 greatest-none : (r : Refusal) (s : Sheet) → replicate 16 0 ≡ greatestAfter (refusal r) s
 unfolding listOf
@@ -29,18 +39,18 @@ enum-told : tie.Need-enum-told
 enum-told c = search needs
 
 same-length : tie.Need-same-length
-same-length c = c .before .before .before .before .responses .kept .1 .0
+same-length c = refused c .responses .kept .1 .0
 
 returns : tie.Need-returns
 returns c =
-    let r = c .before .before .before .before .responses in
-    let s = c .before .before .before .before .before .before .before .args .s in
+    let r = refused c .responses in
+    let s = start (refused c) .args .s in
     (r .ensures, greatest-none (c .enum-told .given .0 .0) s ∙ sym (ap (λ a. greatestAfter a s) (sym (r .ensures .0) ∙ ap toldTotals (c .enum-told .given .1))))
 
 greatest-each-requires : tie.Need-greatest-each-requires
 greatest-each-requires c κs =
-    let a = c .before .before .before .before .before .before .before .before .before in
-    let r = c .before .before .before .before .before .before .responses in
+    let a = start (done (c .before .before)) in
+    let r = done (c .before .before) .responses in
     let s = a .args .s in
     let old = a .args .table .now in
     let e = sym (r .ensures .0) ∙ ap toldTotals (c .before .before .answer .given .1) in
@@ -53,12 +63,12 @@ greatest-each-requires c κs =
     )
 
 same-length-2 : tie.Need-same-length-2
-same-length-2 c = c .before .before .before .before .before .before .before .responses .kept .1 .0
+same-length-2 c = done (c .before .before .before) .responses .kept .1 .0
 
 returns-2 : tie.Need-returns-2
 returns-2 c =
-    let r = c .before .before .before .before .before .before .before .responses in
-    let s = c .before .before .before .before .before .before .before .before .before .before .args .s in
+    let r = done (c .before .before .before) .responses in
+    let s = start (done (c .before .before .before)) .args .s in
     let e = sym (r .ensures .0) ∙ ap toldTotals (c .before .before .before .answer .given .1) in
     ((sym e, r .ensures .1), c .greatest-each .ensures ∙ sym (ap (λ a. greatestAfter a s) e))
 

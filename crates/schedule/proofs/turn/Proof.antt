@@ -67,7 +67,8 @@ element-copy-out-after c = search needs
 add-after : tie.Need-add-after Inv-loop μ-loop
 add-after c =
     let a = c .before .before .before .before .before .before .before .before .before in
-    omega (arith, a .pre .places .period-most (c .before .before .before .before .before .before .before .loop .p) (omega arith), a .pre .short)
+    let l = c .before .before .before .before .before .before .before .loop in
+    omega (arith, a .pre .places .period-most (l .p) (omega arith), a .pre .short)
 
 mul-next : tie.Need-mul-next Inv-loop μ-loop
 mul-next c = search needs

@@ -19,12 +19,22 @@ abbrev μ-loop : tie.MeasureT-loop
 μ-loop periods budgets size own h row₀ next₀ at₀ due₀ clear₀ rests₀ release₀ k₀ row next at due clear rests release k =
     h - at
 
+-- The start and the round, from where the releases of a tick are met; and that place, from where work is left up to the next ones.
+abbrev first : tie.After-turn Inv-loop μ-loop → tie.Start Inv-loop μ-loop
+first c = c .before .before .before .before .before
+
+abbrev round : tie.After-turn Inv-loop μ-loop → tie.At-loop Inv-loop μ-loop
+round c = c .before .before .before
+
+abbrev busy : tie.Then1 Inv-loop μ-loop → tie.After-turn Inv-loop μ-loop
+busy c = c .before .before
+
 -- After the releases of a tick: the gap up to the next ones.
-gap : (c : tie.After-turn Inv-loop μ-loop) → let a = c .before .before .before .before .before .args in
-    Gap (coming (a .own) (a .periods .now) (a .budgets .now) (a .size)) (c .before .before .before .loop .at) (c .turn .result .soon) (a .h) (c .turn .result .clear)
+gap : (c : tie.After-turn Inv-loop μ-loop) → let a = first c .args in
+    Gap (coming (a .own) (a .periods .now) (a .budgets .now) (a .size)) (round c .loop .at) (c .turn .result .soon) (a .h) (c .turn .result .clear)
 gap c =
-    let a = c .before .before .before .before .before in
-    turned-gap (a .pre .0) (a .pre .1 .period-positive) (c .turn .ensures) (length (a .args .row .now)) (omega arith) (a .pre .1 .ends) (c .before .before .before .loop .inv .0 .clear-is)
+    let a = first c in
+    turned-gap (a .pre .0) (a .pre .1 .period-positive) (c .turn .ensures) (length (a .args .row .now)) (omega arith) (a .pre .1 .ends) (round c .loop .inv .0 .clear-is)
 
 loop-holds : tie.Need-loop-holds Inv-loop μ-loop
 loop-holds c = (start (c .before .pre .1) (c .before .args .row .now) refl, next-start (c .before .pre .0) (c .before .pre .1 .period-positive))
@@ -44,23 +54,23 @@ turn-requires c κs =
 
 add-if2 : tie.Need-add-if2 Inv-loop μ-loop
 add-if2 c =
-    let a = c .before .before .before .before .before .before .before .before in
-    let l = c .before .before .before .before .before .before .loop in
+    let a = first (c .before .before .before) in
+    let l = round (c .before .before .before) .loop in
     omega (arith, release-most (a .pre .1) (l .inv .0), a .pre .1)
 
 same-length : tie.Need-same-length Inv-loop μ-loop
-same-length c = c .before .before .before .before .before .before .before .before .loop .inv .0 .whole
+same-length c = round (busy (c .before .before .before)) .loop .inv .0 .whole
 
 returns : tie.Need-returns Inv-loop μ-loop
 returns c =
-    let a = c .before .before .before .before .before .before .before .before .before .before in
-    let l = c .before .before .before .before .before .before .before .before .loop in
-    blocked (a .pre .1) (l .inv .0) (gap (c .before .before .before .before .before)) (c .before .before .before .if1 .taken) (c .if2 .taken)
+    let a = first (busy (c .before .before .before)) in
+    let l = round (busy (c .before .before .before)) .loop in
+    blocked (a .pre .1) (l .inv .0) (gap (busy (c .before .before .before))) (c .before .before .before .if1 .taken) (c .if2 .taken)
 
 sub-row : tie.Need-sub-row Inv-loop μ-loop
 sub-row c =
-    let a = c .before .before .before .before .before .before .before .before in
-    let l = c .before .before .before .before .before .before .loop in
+    let a = first (c .before .before .before) in
+    let l = round (c .before .before .before) .loop in
     omega (arith, some-work (a .pre .1) (l .inv .0) (gap (c .before .before .before)) (c .if3 .taken))
 
 mul-row : tie.Need-mul-row Inv-loop μ-loop
@@ -68,44 +78,44 @@ mul-row c = search needs
 
 slice-write-row : tie.Need-slice-write-row Inv-loop μ-loop
 slice-write-row c =
-    let a = c .before .before .before .before .before .before .before .before in
-    let l = c .before .before .before .before .before .before .loop in
+    let a = first (c .before .before .before) in
+    let l = round (c .before .before .before) .loop in
     place-fits (a .pre .1) (l .inv .0) (gap (c .before .before .before)) (c .before .if1 .left) (c .if3 .taken)
 
 add-k : tie.Need-add-k Inv-loop μ-loop
 add-k c =
-    let a = c .before .before .before .before .before .before .before .before in
-    let l = c .before .before .before .before .before .before .loop in
+    let a = first (c .before .before .before) in
+    let l = round (c .before .before .before) .loop in
     omega (arith, l .inv .0 .few, a .pre .1)
 
 add-release : tie.Need-add-release Inv-loop μ-loop
 add-release c =
-    let a = c .before .before .before .before .before .before .before .before .before in
-    let l = c .before .before .before .before .before .before .before .loop in
+    let a = first (c .before .before .before .before) in
+    let l = round (c .before .before .before .before) .loop in
     omega (arith, release-most (a .pre .1) (l .inv .0), a .pre .1)
 
 add-rests : tie.Need-add-rests Inv-loop μ-loop
 add-rests c =
-    let a = c .before .before .before .before .before .before .before .before .before in
-    let l = c .before .before .before .before .before .before .before .loop in
+    let a = first (c .before .before .before .before) in
+    let l = round (c .before .before .before .before) .loop in
     omega (arith, l .inv .0 .rests-are, rests-most (coming (a .args .own) (a .args .periods .now) (a .args .budgets .now) (a .args .size)) (l .at), l .inv .0 .so-far, gap (c .before .before .before .before) .within, a .pre .1 .short)
 
 loop-less : tie.Need-loop-less Inv-loop μ-loop
-loop-less c = omega (arith, gap (c .before .before .before .before .before) .later)
+loop-less c = omega (arith, gap (busy (c .before .before .before)) .later)
 
 loop-again : tie.Need-loop-again Inv-loop μ-loop
 loop-again c =
-    let a = c .before .before .before .before .before .before .before .before .before .before in
-    let l = c .before .before .before .before .before .before .before .before .loop in
-    (waited (a .pre .1) (l .inv .0) (gap (c .before .before .before .before .before)) (c .before .before .before .if1 .taken) (omega (arith, c .if2 .left)), turned-next (a .pre .0) (a .pre .1 .period-positive) (c .before .before .before .before .before .turn .ensures))
+    let a = first (busy (c .before .before .before)) in
+    let l = round (busy (c .before .before .before)) .loop in
+    (waited (a .pre .1) (l .inv .0) (gap (busy (c .before .before .before))) (c .before .before .before .if1 .taken) (omega (arith, c .if2 .left)), turned-next (a .pre .0) (a .pre .1 .period-positive) (busy (c .before .before .before) .turn .ensures))
 
 loop-less-2 : tie.Need-loop-less-2 Inv-loop μ-loop
 loop-less-2 c = omega (arith, gap (c .before .before .before .before) .later)
 
 loop-again-2 : tie.Need-loop-again-2 Inv-loop μ-loop
 loop-again-2 c =
-    let a = c .before .before .before .before .before .before .before .before .before in
-    let l = c .before .before .before .before .before .before .before .loop in (
+    let a = first (c .before .before .before .before) in
+    let l = round (c .before .before .before .before) .loop in (
       ⊎-elim
           (λ w. rw (w .2, w .3, w .4) (job-done (a .pre .1) (l .inv .0) (gap (c .before .before .before .before)) (c .before .before .if1 .left) (w .0 .taken)))
           (λ w. rw (w .1, w .2, w .3) (rested-on (a .pre .1) (l .inv .0) (gap (c .before .before .before .before)) (c .before .before .if1 .left) (w .0 .left)))

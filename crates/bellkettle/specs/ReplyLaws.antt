@@ -10,7 +10,6 @@ use Rattle.answers.specs.declared.Refusal.{Refusal}
 use Rattle.answers.specs.declared.Verdict.the-variants.{Fine, No}
 use Rattle.answers.specs.Answers.{Answer, given, refused, after, refusal}
 use Rattle.answers.specs.AnswerLaws.{also-fine, also-no}
-use Rattle.sheet.specs.declared.Sheet.{Sheet}
 use Rattle.sheet.specs.declared.Reading.{Reading}
 use Rattle.sheet.specs.Calls.{readOf}
 use Rattle.sheet.specs.Answers.{toldSheet}
@@ -18,7 +17,7 @@ use Rattle.theory.specs.declared.Task.{Task}
 use Rattle.schedule.specs.Calls.{tableAfter}
 use Rattle.bellkettle.specs.declared.Reply.{Reply}
 use Rattle.bellkettle.specs.Numbers.{inNumbers}
-use Rattle.bellkettle.specs.Promises.{Returned, lentAfter}
+use Rattle.bellkettle.specs.Promises.{Returned}
 use Rattle.bellkettle.specs.Replies.{valuesIn, Tells}
 
 -- A reply tells one answer, by whatever name.

@@ -30,7 +30,7 @@ ghost use Rattle.chain.specs.Calls.{toldDelay, toldWorst, toldBound, toldMargin
 ghost use Rattle.bellkettle.specs.Numbers.{inNumbers, alone, signed, totalsNumbers, figureNumbers, summaryNumbers, countNumbers, answerTo};
 ghost use Rattle.bellkettle.specs.Fields.{periodsIn, budgetsIn, ranksIn, entriesIn, sixteen, counted, tasksCounted, taskFrom, entryFrom, sheetFrom};
 ghost use Rattle.bellkettle.specs.Promises.{SheetAsked, SheetRead, SheetWritten};
-ghost use Rattle.bellkettle.specs.Replies.{valuesIn, Tells, delayRefusal, worstRefusal, boundRefusal, marginRefusal, figuresRefusal, writtenRefusal, sizeIn};
+ghost use Rattle.bellkettle.specs.Replies.{valuesIn, Tells, sizeIn};
 
 // What is asked of a sheet.
 enum Question {
@@ -78,61 +78,6 @@ fn refuse(r: Refusal) -> Reply
             values: [wide(x), 0, 0, 0, 0, 0, 0],
         },
     }
-}
-
-// The refusal in an answer that gives nothing else. Number 0, which no refusal has, stands for none.
-fn delay_refusal(d: Delay) -> Refusal
-    ensures { λ r. ⌜ r ≡ delayRefusal d ⌝ }
-{
-    let Delay::No(r) = d else {
-        return Refusal::Number(0);
-    };
-    r
-}
-
-fn worst_refusal(w: Worst) -> Refusal
-    ensures { λ r. ⌜ r ≡ worstRefusal w ⌝ }
-{
-    let Worst::No(r) = w else {
-        return Refusal::Number(0);
-    };
-    r
-}
-
-fn bound_refusal(b: Bound) -> Refusal
-    ensures { λ r. ⌜ r ≡ boundRefusal b ⌝ }
-{
-    let Bound::No(r) = b else {
-        return Refusal::Number(0);
-    };
-    r
-}
-
-fn margin_refusal(m: Margin) -> Refusal
-    ensures { λ r. ⌜ r ≡ marginRefusal m ⌝ }
-{
-    let Margin::No(r) = m else {
-        return Refusal::Number(0);
-    };
-    r
-}
-
-fn figures_refusal(f: Figures) -> Refusal
-    ensures { λ r. ⌜ r ≡ figuresRefusal f ⌝ }
-{
-    let Figures::No(r) = f else {
-        return Refusal::Number(0);
-    };
-    r
-}
-
-fn written_refusal(w: Written) -> Refusal
-    ensures { λ r. ⌜ r ≡ writtenRefusal w ⌝ }
-{
-    let Written::No(r) = w else {
-        return Refusal::Number(0);
-    };
-    r
 }
 
 fn alone(n: u32) -> Reply
@@ -220,7 +165,7 @@ fn delay_reply(d: Delay) -> Reply
     ensures { λ reply. ⌜ Tells reply (inNumbers alone (toldDelay d)) ⌝ }
 {
     let Delay::Ticks(ticks) = d else {
-        return refuse(delay_refusal(d));
+        return refuse(chain::delay_refusal(d));
     };
     alone(ticks)
 }
@@ -229,7 +174,7 @@ fn worst_reply(w: Worst) -> Reply
     ensures { λ reply. ⌜ Tells reply (inNumbers figureNumbers (toldWorst w)) ⌝ }
 {
     let Worst::Is(figure) = w else {
-        return refuse(worst_refusal(w));
+        return refuse(chain::worst_refusal(w));
     };
     figure_numbers(figure)
 }
@@ -238,7 +183,7 @@ fn bound_reply(b: Bound) -> Reply
     ensures { λ reply. ⌜ Tells reply (inNumbers alone (toldBound b)) ⌝ }
 {
     let Bound::Ticks(ticks) = b else {
-        return refuse(bound_refusal(b));
+        return refuse(chain::bound_refusal(b));
     };
     alone(ticks)
 }
@@ -247,7 +192,7 @@ fn margin_reply(m: Margin) -> Reply
     ensures { λ reply. ⌜ Tells reply (inNumbers signed (toldMargin m)) ⌝ }
 {
     let Margin::Ticks(ticks) = m else {
-        return refuse(margin_refusal(m));
+        return refuse(chain::margin_refusal(m));
     };
     signed(ticks)
 }
@@ -256,7 +201,7 @@ fn figures_reply(f: Figures) -> Reply
     ensures { λ reply. ⌜ Tells reply (inNumbers summaryNumbers (toldFigures f)) ⌝ }
 {
     let Figures::Of(summary) = f else {
-        return refuse(figures_refusal(f));
+        return refuse(chain::figures_refusal(f));
     };
     summary_numbers(summary)
 }
@@ -266,7 +211,7 @@ fn written_reply(w: Written) -> Reply
     ensures { λ reply. ⌜ Tells reply (inNumbers alone (toldBytes w)) ⌝ }
 {
     let Written::Bytes(size) = w else {
-        return refuse(written_refusal(w));
+        return refuse(sheet::written_refusal(w));
     };
     alone(size as u32)
 }

@@ -10,6 +10,8 @@ use Rattle.theory.specs.Model.Schedule.{period}
 use Rattle.theory.specs.Model.Responses.{response, hyperperiod, taskResponse}
 use Rattle.theory.specs.Model.Chain.{delay, worst, worstRelease, bound}
 use Rattle.sheet.specs.declared.Sheet.{Sheet}
+use Rattle.answers.specs.declared.Refusal.{Refusal}
+use Rattle.answers.specs.declared.Refusal.the-variants.{Number}
 use Rattle.answers.specs.Answers.{Answer, given, when, after, also, refusal}
 use Rattle.sheet.specs.Tasks.{tasksOf, chainOf, firstOf, restOf}
 use Rattle.schedule.specs.Calls.{sizesOf, responsesOf}
@@ -119,3 +121,24 @@ toldMargin (NoMargin r) = refusal r
 abbrev pub toldFigures : Figures → Answer Summary
 toldFigures (Of summary) = given summary
 toldFigures (NoFigures r) = refusal r
+
+-- The refusal in each; number 0, which no refusal has, where there is none.
+abbrev pub delayRefusal : Delay → Refusal
+delayRefusal (DelayTicks ticks) = Number 0
+delayRefusal (NoDelay r) = r
+
+abbrev pub worstRefusal : Worst → Refusal
+worstRefusal (Is figure) = Number 0
+worstRefusal (NoWorst r) = r
+
+abbrev pub boundRefusal : Bound → Refusal
+boundRefusal (BoundTicks ticks) = Number 0
+boundRefusal (NoBound r) = r
+
+abbrev pub marginRefusal : Margin → Refusal
+marginRefusal (MarginTicks ticks) = Number 0
+marginRefusal (NoMargin r) = r
+
+abbrev pub figuresRefusal : Figures → Refusal
+figuresRefusal (Of summary) = Number 0
+figuresRefusal (NoFigures r) = r

@@ -12,14 +12,10 @@ use Rattle.arith.specs.Ranges.{sum, maximum, least}
 use Rattle.theory.specs.Model.Schedule.{period, release, rank}
 use Rattle.theory.specs.Model.Responses.{jobs}
 use Rattle.theory.specs.Model.Chain.{Chain, outranks, Table, nextRelease, delay, common}
-use Rattle.answers.specs.declared.Refusal.{Refusal}
-use Rattle.answers.specs.declared.Refusal.the-variants.{Number}
 use Rattle.sheet.specs.Tasks.{firstOf, restOf}
 use Rattle.schedule.specs.Calls.{mostJobs, rows}
 use Rattle.schedule.specs.Results.{Taken}
 use Rattle.chain.specs.declared.answer.Figure.{Figure}
-use Rattle.chain.specs.declared.answer.Worst.{Worst}
-use Rattle.chain.specs.declared.answer.Worst.the-variants.{Is, No as NoWorst}
 use Rattle.chain.specs.declared.answer.HandOver.{HandOver}
 
 -- ---- the largest figures
@@ -122,9 +118,3 @@ pub record Gathered (ts : List Task) (n : ℕ) (periods ranks starts counts : Li
   pub ranks-are : Column ranks n (rank ts)
   pub starts-are : Column starts n (λ i. sum i (jobs ts))
   pub counts-are : Column counts n (jobs ts)
-
--- ---- the refusal that an answer holds
-
-abbrev pub worstRefusal : Worst → Refusal
-worstRefusal (Is figure) = Number 0
-worstRefusal (NoWorst r) = r

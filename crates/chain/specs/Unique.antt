@@ -3,6 +3,7 @@ use mathlib.Core.Path.{_≡_, sym, ap, ap₂, _∙_}
 use mathlib.Core.List.{List}
 use Prim.Native.Nat.{ℕ}
 use Rattle.sheet.specs.declared.Sheet.{Sheet}
+use Rattle.answers.specs.declared.Refusal.{Refusal}
 use Rattle.answers.specs.AnswerLaws.{refused-given, refusal-unique}
 use Rattle.chain.specs.declared.answer.Delay.{Delay}
 use Rattle.chain.specs.declared.answer.Delay.the-variants.{Ticks as DelayTicks, No as NoDelay}
@@ -16,7 +17,7 @@ use Rattle.chain.specs.declared.answer.Figures.{Figures}
 use Rattle.chain.specs.declared.answer.Figures.the-variants.{Of, No as NoFigures}
 use Rattle.chain.specs.declared.answer.TaskFigures.{TaskFigures}
 use Rattle.chain.specs.Calls.{defaultLimit, toldDelay, toldWorst, toldBound, toldMargin, toldFigures}
-use Rattle.chain.specs.Promises.{DelayPromise, WorstPromise, BoundPromise, MarginPromise, DefaultMarginPromise, FiguresPromise}
+use Rattle.chain.specs.Promises.{DelayPromise, WorstPromise, BoundPromise, MarginPromise, DefaultMarginPromise, FiguresPromise, DelayRefusalPromise, WorstRefusalPromise, BoundRefusalPromise, MarginRefusalPromise, FiguresRefusalPromise}
 
 -- Document 01's answer tells the case of the enum.
 
@@ -73,3 +74,18 @@ module _ (s : Sheet) (old table table′ : List ℕ) where
     ap₂ (λ a m. record { answer = a; greatest = m }) (figures-told (x .answer) (y .answer) (p .0 .0 ∙ sym (q .0 .0))) (p .1 ∙ sym (q .1)),
     p .0 .1 ∙ sym (q .0 .1),
   )
+
+pub delay-refusal-unique : (answer : Delay) (x y : Refusal) → DelayRefusalPromise answer x → DelayRefusalPromise answer y → x ≡ y
+delay-refusal-unique answer x y p q = p ∙ sym q
+
+pub worst-refusal-unique : (answer : Worst) (x y : Refusal) → WorstRefusalPromise answer x → WorstRefusalPromise answer y → x ≡ y
+worst-refusal-unique answer x y p q = p ∙ sym q
+
+pub bound-refusal-unique : (answer : Bound) (x y : Refusal) → BoundRefusalPromise answer x → BoundRefusalPromise answer y → x ≡ y
+bound-refusal-unique answer x y p q = p ∙ sym q
+
+pub margin-refusal-unique : (answer : Margin) (x y : Refusal) → MarginRefusalPromise answer x → MarginRefusalPromise answer y → x ≡ y
+margin-refusal-unique answer x y p q = p ∙ sym q
+
+pub figures-refusal-unique : (answer : Figures) (x y : Refusal) → FiguresRefusalPromise answer x → FiguresRefusalPromise answer y → x ≡ y
+figures-refusal-unique answer x y p q = p ∙ sym q

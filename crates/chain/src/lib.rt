@@ -26,10 +26,10 @@ ghost use Rattle.sheet.specs.Sound.{Sound};
 ghost use Rattle.sheet.specs.Tasks.{tasksOf, chainOf, firstOf, restOf};
 ghost use Rattle.schedule.specs.Calls.{mostTicks};
 ghost use Rattle.chain.specs.Calls.{delayAt, figureOf, quickBound, less, mostLimit};
-ghost use Rattle.chain.specs.Promises.{DelayPromise, WorstPromise, BoundPromise, MarginPromise, DefaultMarginPromise, FiguresPromise};
+ghost use Rattle.chain.specs.Promises.{DelayPromise, WorstPromise, BoundPromise, MarginPromise, DefaultMarginPromise, FiguresPromise, DelayRefusalPromise, WorstRefusalPromise, BoundRefusalPromise, MarginRefusalPromise, FiguresRefusalPromise};
 ghost use Rattle.schedule.specs.Results.{Taken};
 ghost use Rattle.schedule.specs.RowLaws.{Holds};
-ghost use Rattle.chain.specs.Conditions.{mostWait, mostFigure, mostRelease, tasksIn, rowsIn, greatestIn, delayIn, onward, ahead, HandedOver, FirstHandedOver, RowIn, TaskIn, ChainIn, Greatest, pairBound, Gathered, worstRefusal};
+ghost use Rattle.chain.specs.Conditions.{mostWait, mostFigure, mostRelease, tasksIn, rowsIn, greatestIn, delayIn, onward, ahead, HandedOver, FirstHandedOver, RowIn, TaskIn, ChainIn, Greatest, pairBound, Gathered};
 
 // "margin limit 0 to 4,000,000"
 const MOST_LIMIT: u32 = 4000000;
@@ -332,11 +332,47 @@ fn less_of(limit: u32, figure: u32) -> i32
     limit as i32 - figure as i32
 }
 
-// The refusal in an answer that gives no figure; number 0, which no refusal has, for none.
-fn worst_refusal(w: Worst) -> Refusal
-    ensures { λ r. ⌜ r ≡ worstRefusal w ⌝ }
+// The refusal in an answer that gives nothing else. Number 0, which no refusal has, stands for none.
+pub fn delay_refusal(d: Delay) -> Refusal
+    ensures { λ r. ⌜ DelayRefusalPromise d r ⌝ }
+{
+    let Delay::No(r) = d else {
+        return Refusal::Number(0);
+    };
+    r
+}
+
+pub fn worst_refusal(w: Worst) -> Refusal
+    ensures { λ r. ⌜ WorstRefusalPromise w r ⌝ }
 {
     let Worst::No(r) = w else {
+        return Refusal::Number(0);
+    };
+    r
+}
+
+pub fn bound_refusal(b: Bound) -> Refusal
+    ensures { λ r. ⌜ BoundRefusalPromise b r ⌝ }
+{
+    let Bound::No(r) = b else {
+        return Refusal::Number(0);
+    };
+    r
+}
+
+pub fn margin_refusal(m: Margin) -> Refusal
+    ensures { λ r. ⌜ MarginRefusalPromise m r ⌝ }
+{
+    let Margin::No(r) = m else {
+        return Refusal::Number(0);
+    };
+    r
+}
+
+pub fn figures_refusal(f: Figures) -> Refusal
+    ensures { λ r. ⌜ FiguresRefusalPromise f r ⌝ }
+{
+    let Figures::No(r) = f else {
         return Refusal::Number(0);
     };
     r

@@ -1,8 +1,5 @@
 -- Each question is put to the call of its name, and the answer told in numbers.
-use mathlib.Core.Path.{_∙_}
-use lib.ListN.{length}
 use Rattle.sheet.specs.Tasks.{tasksOf}
-use Rattle.schedule.specs.Calls.{responsesOf}
 use Rattle.bellkettle.specs.Numbers.{alone, signed, totalsNumbers, figureNumbers, summaryNumbers}
 use Rattle.bellkettle.specs.ReplyLaws.{told-left}
 use borrow.Author.Needs.{needs}

@@ -3,7 +3,7 @@ use mathlib.Core.Path.{sym, ap, _∙_}
 use Rattle.answers.specs.Answers.{refusal}
 use Rattle.chain.specs.Calls.{toldBound}
 use Rattle.bellkettle.specs.Numbers.{inNumbers, alone}
-use Rattle.bellkettle.specs.Replies.{boundRefusal}
+use Rattle.chain.specs.Calls.{boundRefusal}
 use Rattle.bellkettle.specs.ReplyLaws.{tells-as}
 use borrow.Author.Needs.{needs}
 use Rattle.bellkettle.proofs.bound_reply.Statement.{statement}

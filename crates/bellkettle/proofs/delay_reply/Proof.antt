@@ -3,7 +3,7 @@ use mathlib.Core.Path.{sym, ap, _∙_}
 use Rattle.answers.specs.Answers.{refusal}
 use Rattle.chain.specs.Calls.{toldDelay}
 use Rattle.bellkettle.specs.Numbers.{inNumbers, alone}
-use Rattle.bellkettle.specs.Replies.{delayRefusal}
+use Rattle.chain.specs.Calls.{delayRefusal}
 use Rattle.bellkettle.specs.ReplyLaws.{tells-as}
 use borrow.Author.Needs.{needs}
 use Rattle.bellkettle.proofs.delay_reply.Statement.{statement}

@@ -3,7 +3,7 @@ use mathlib.Core.Path.{sym, ap, _∙_}
 use Rattle.answers.specs.Answers.{refusal}
 use Rattle.chain.specs.Calls.{toldFigures}
 use Rattle.bellkettle.specs.Numbers.{inNumbers, summaryNumbers}
-use Rattle.bellkettle.specs.Replies.{figuresRefusal}
+use Rattle.chain.specs.Calls.{figuresRefusal}
 use Rattle.bellkettle.specs.ReplyLaws.{tells-as}
 use borrow.Author.Needs.{needs}
 use Rattle.bellkettle.proofs.figures_reply.Statement.{statement}

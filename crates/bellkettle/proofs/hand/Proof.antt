@@ -1,9 +1,9 @@
 -- After i turns the first i values are in their places.
 use mathlib.Core.Path.{_≡_, refl, sym, ap, ap₂, _∙_}
-use Prim.Native.Nat.{_-_, _≤_, _<_}
+use Prim.Native.Nat.{_-_, _≤_}
 use native.Mathlib.Omega.{arith}
 use lib.IntN.{pos}
-use lib.ListN.{length, length-map, getD, set, take}
+use lib.ListN.{length, length-map, set, take}
 use lib.Seq.{sets, length-sets}
 use mir.Syntax.{w64}
 use mir.Facts.{toZ-ofZ}

@@ -5,7 +5,7 @@ use mir.Facts.{toZ-ofZ}
 use Rattle.answers.specs.Answers.{given, refusal}
 use Rattle.chain.specs.Calls.{toldMargin}
 use Rattle.bellkettle.specs.Numbers.{inNumbers, signed}
-use Rattle.bellkettle.specs.Replies.{marginRefusal}
+use Rattle.chain.specs.Calls.{marginRefusal}
 use Rattle.bellkettle.specs.ReplyLaws.{tells-as}
 use borrow.Author.Needs.{needs}
 use Rattle.bellkettle.proofs.margin_reply.Statement.{statement}

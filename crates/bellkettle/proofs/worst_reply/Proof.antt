@@ -3,7 +3,7 @@ use mathlib.Core.Path.{sym, ap, _∙_}
 use Rattle.answers.specs.Answers.{refusal}
 use Rattle.chain.specs.Calls.{toldWorst}
 use Rattle.bellkettle.specs.Numbers.{inNumbers, figureNumbers}
-use Rattle.bellkettle.specs.Replies.{worstRefusal}
+use Rattle.chain.specs.Calls.{worstRefusal}
 use Rattle.bellkettle.specs.ReplyLaws.{tells-as}
 use borrow.Author.Needs.{needs}
 use Rattle.bellkettle.proofs.worst_reply.Statement.{statement}

@@ -4,7 +4,8 @@ use native.Mathlib.Omega.{arith}
 use Rattle.answers.specs.Answers.{refusal}
 use Rattle.sheet.specs.Answers.{toldBytes}
 use Rattle.bellkettle.specs.Numbers.{inNumbers, alone}
-use Rattle.bellkettle.specs.Replies.{writtenRefusal, sizeIn}
+use Rattle.sheet.specs.Answers.{noBytes}
+use Rattle.bellkettle.specs.Replies.{sizeIn}
 use Rattle.bellkettle.specs.ReplyLaws.{tells-as}
 use borrow.Author.Needs.{needs}
 use Rattle.bellkettle.proofs.written_reply.Statement.{statement}
@@ -25,7 +26,7 @@ refuse-requires c κs = search needs
 returns : tie.Need-returns
 returns c =
     let no = c .before .before .enum-told .given .1 in
-    tells-as (c .refuse .ensures) (ap refusal (c .before .written-refusal .ensures ∙ ap writtenRefusal no) ∙ sym (ap (λ x. inNumbers alone (toldBytes x)) no))
+    tells-as (c .refuse .ensures) (ap refusal (c .before .written-refusal .ensures ∙ ap noBytes no) ∙ sym (ap (λ x. inNumbers alone (toldBytes x)) no))
 
 cast-alone : tie.Need-cast-alone
 cast-alone c = omega (arith, ap sizeIn (c .before .w .given .1))

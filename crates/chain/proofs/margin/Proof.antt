@@ -9,7 +9,7 @@ use Rattle.answers.specs.Answers.{given, after, refusal}
 use Rattle.schedule.specs.Calls.{sizesOf, toldSize}
 use Rattle.schedule.specs.CallLaws.{sizes-no}
 use Rattle.chain.specs.Calls.{less, worstOf, marginOf, toldWorst}
-use Rattle.chain.specs.Conditions.{worstRefusal}
+use Rattle.chain.specs.Calls.{worstRefusal}
 use Rattle.chain.specs.CallLaws.{answers-no, answers-given, answers-number, sizes-untouched, margin-over, margin-asked, worst-given}
 use Rattle.chain.specs.Largest.{worst-most}
 use Rattle.chain.proofs.margin.Statement.{statement}

@@ -16,7 +16,7 @@ use Rattle.answers.specs.declared.Refusal.{Refusal}
 use Rattle.answers.specs.declared.Refusal.the-variants.{Number}
 use Rattle.sheet.specs.Tasks.{firstOf, restOf}
 use Rattle.schedule.specs.Calls.{mostJobs, rows}
-use Rattle.schedule.specs.Results.{Taken}
+use Rattle.schedule.specs.Taken.{Taken}
 use Rattle.chain.specs.declared.answer.Figure.{Figure}
 use Rattle.chain.specs.declared.answer.Worst.{Worst}
 use Rattle.chain.specs.declared.answer.Worst.the-variants.{Is, No as NoWorst}

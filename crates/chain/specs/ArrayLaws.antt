@@ -19,7 +19,7 @@ use Rattle.schedule.specs.Calls.{mostTicks}
 use Rattle.chain.specs.declared.answer.Figure.{Figure}
 use Rattle.chain.specs.Calls.{delayAt, figureOf, quickBound}
 use Rattle.chain.specs.Conditions.{TakenChain, tasksIn, rowsIn, greatestIn, delayIn, TaskIn, ChainIn, Greatest, Gathered}
-use Rattle.schedule.specs.RowLaws.{Holds}
+use Rattle.schedule.specs.Taken.{Holds}
 use Rattle.arith.specs.RangeLaws.{maximum-eq}
 use Rattle.chain.specs.ReadLaws.{period-in, rank-in}
 use Rattle.chain.specs.GatherLaws.{row-within}

@@ -25,8 +25,9 @@ use Rattle.schedule.specs.declared.answer.Size.{Size}
 use Rattle.schedule.specs.Calls.{sizesOf, responsesOf, tableAfter}
 use Rattle.schedule.specs.NumberLaws.{sizes-numbered}
 use Rattle.schedule.specs.Promises.{AnswersAs}
-use Rattle.schedule.specs.Results.{responses-given, Taken, given-taken}
-use Rattle.schedule.specs.RowLaws.{filled-holds, Holds}
+use Rattle.schedule.specs.Results.{responses-given, given-taken}
+use Rattle.schedule.specs.Taken.{Taken, Holds}
+use Rattle.schedule.specs.RowLaws.{filled-holds}
 use Rattle.chain.specs.declared.answer.Figure.{Figure}
 use Rattle.chain.specs.Calls.{delayAt, figureOf, quickBound, less, noRelease, mostLimit, delayOf, worstOf, boundOf, marginOf}
 use Rattle.chain.specs.Conditions.{TakenChain}

@@ -14,7 +14,7 @@ use Rattle.theory.specs.Model.Responses.{jobs}
 use Rattle.theory.specs.Model.Chain.{Chain, outranks, Table, nextRelease, delay, common}
 use Rattle.sheet.specs.Tasks.{firstOf, restOf}
 use Rattle.schedule.specs.Calls.{mostJobs, rows}
-use Rattle.schedule.specs.Results.{Taken}
+use Rattle.schedule.specs.Taken.{Taken}
 use Rattle.chain.specs.declared.answer.Figure.{Figure}
 use Rattle.chain.specs.declared.answer.HandOver.{HandOver}
 

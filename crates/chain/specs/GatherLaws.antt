@@ -16,7 +16,7 @@ use Rattle.sheet.specs.Sound.{Sound}
 use Rattle.sheet.specs.Tasks.{tasksOf}
 use Rattle.sheet.specs.TaskLaws.{period-at, rank-at}
 use Rattle.schedule.specs.Calls.{mostJobs}
-use Rattle.schedule.specs.Results.{Taken}
+use Rattle.schedule.specs.Taken.{Taken}
 use Rattle.chain.specs.Conditions.{Column, Gathered}
 
 column-none : (places : List ℕ) (f : ℕ → ℕ) → length places ≡ 16 → Column places 0 f

@@ -27,8 +27,8 @@ ghost use Rattle.sheet.specs.Tasks.{tasksOf, chainOf, firstOf, restOf};
 ghost use Rattle.schedule.specs.Calls.{mostTicks};
 ghost use Rattle.chain.specs.Calls.{delayAt, figureOf, quickBound, less, mostLimit};
 ghost use Rattle.chain.specs.Promises.{DelayPromise, WorstPromise, BoundPromise, MarginPromise, DefaultMarginPromise, FiguresPromise, DelayRefusalPromise, WorstRefusalPromise, BoundRefusalPromise, MarginRefusalPromise, FiguresRefusalPromise};
-ghost use Rattle.schedule.specs.Results.{Taken};
-ghost use Rattle.schedule.specs.RowLaws.{Holds};
+ghost use Rattle.schedule.specs.Taken.{Taken};
+ghost use Rattle.schedule.specs.Taken.{Holds};
 ghost use Rattle.chain.specs.Conditions.{mostWait, mostFigure, mostRelease, tasksIn, rowsIn, greatestIn, delayIn, onward, ahead, HandedOver, FirstHandedOver, RowIn, TaskIn, ChainIn, Greatest, pairBound, Gathered};
 
 // "margin limit 0 to 4,000,000"

@@ -1,6 +1,7 @@
--- The reader's part: what the calls answer and leave, and what each promises.
+-- The reader's part: what the calls answer and leave, what each promises, and what that leaves for a layer above.
 pub mod Calls
 pub mod Promises
+pub mod Taken
 -- The laws of the calls: their refusals, their answers case by case, and the rows of the table.
 pub mod NumberLaws
 pub mod Lateness

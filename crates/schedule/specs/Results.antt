@@ -22,6 +22,7 @@ use Rattle.sheet.specs.TaskLaws.{tasks-length, task-allowed, sound-proper}
 use Rattle.schedule.specs.declared.answer.Totals.{Totals}
 use Rattle.schedule.specs.declared.answer.Size.{Size}
 use Rattle.schedule.specs.Calls.{mostTicks, mostJobs, lateGreatest, lateness, sizesOf, responsesOf, rows}
+use Rattle.schedule.specs.Taken.{Taken}
 use Rattle.schedule.specs.Lateness.{GreatestLate, idle-accepted, busy-greatest, accepted-idle, greatest-busy}
 use Rattle.schedule.specs.NumberLaws.{sizes-numbered}
 use Rattle.schedule.specs.CallLaws.{sizes-fit, Sized, sizes-given, responses-late, responses-full}
@@ -127,14 +128,7 @@ module _ (s : Sheet) (room : ℕ) where
       responses-late s room (sizes-fit s (f .judged-fine) (f .hyperperiod-most) (f .jobs-most)) (f .jobs-fit)
       (greatest-busy (sound-proper (judged-sound s (f .judged-fine))) (f .greatest-late))
 
--- Tasks that are taken: as many as a sheet has and allowed, with H and J within their limits, and none late.
-pub record Taken (ts : List Task) : Type 0 where
-  pub count-most : length ts ≤ 16
-  pub period-most : (i : ℕ) → i < length ts → period ts i ≤ 100000
-  pub accepted : Accepted ts
-  pub short : hyperperiod ts ≤ mostTicks
-  pub few : allJobs ts ≤ mostJobs
-
+-- The tasks of a sheet that is answered are taken.
 pub given-taken : (s : Sheet) (room : ℕ) {totals : Totals} → responsesOf s room ≡ given totals → Taken (tasksOf s)
 given-taken s room e =
     let g = responses-given s room e in

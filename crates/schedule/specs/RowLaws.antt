@@ -1,7 +1,7 @@
 -- The rows in a table: where each job's response stands.
 use mathlib.Core.Path.{_≡_, refl, sym, ap, ap₂, _∙_, subst}
 use mathlib.Core.List.{List, _++_}
-use Prim.Native.Nat.{ℕ, zero, suc, _+_, _≤_, _<_}
+use Prim.Native.Nat.{ℕ, zero, suc, _+_, _<_}
 use native.Mathlib.Omega.{arith}
 use native.Mathlib.Decide.{ℕ-discrete}
 use lib.ListN.{length, getD, drop, length-append, List·getD-append}
@@ -16,6 +16,7 @@ use Rattle.sheet.specs.declared.Sheet.{Sheet}
 use Rattle.sheet.specs.Tasks.{tasksOf}
 use Rattle.schedule.specs.declared.answer.Totals.{Totals}
 use Rattle.schedule.specs.Calls.{responsesOf, row, rows, tableAfter}
+use Rattle.schedule.specs.Taken.{Holds}
 
 module _ (ts : List Task) where
   pub rows-length : (n : ℕ) → length (rows ts n) ≡ sum n (jobs ts)
@@ -34,11 +35,6 @@ module _ (ts : List Task) where
           ap (λ x. getD (rows ts n ++ row ts n) (x + k) 0) (ap (λ x. sum x (jobs ts)) e ∙ sym (rows-length n))
           ∙ getD-append-add (rows ts n) (row ts n) k 0 ∙ getD-listOf (jobs ts n) (response ts n) k 0 (subst (λ x. k < jobs ts x) e m) ∙ ap (λ x. response ts x k) (sym e)
       go (no e) rec = List·getD-append (rows ts n) (row ts n) 0 (sum i (jobs ts) + k) (omega (arith, rows-length n, sum-grows (jobs ts) (suc i) n (omega arith))) ∙ rec (omega arith)
-
--- The rows of all tasks stand at the front of a table.
-pub record Holds (ts : List Task) (table : List ℕ) : Type 0 where
-  pub enough : allJobs ts ≤ length table
-  pub entry : (i k : ℕ) → i < length ts → k < jobs ts i → getD table (sum i (jobs ts) + k) 0 ≡ response ts i k
 
 -- Where the answer is given, the table holds it there.
 pub table-entry : (s : Sheet) (old : List ℕ) {totals : Totals} → responsesOf s (length old) ≡ given totals → (i k : ℕ) → i < length (tasksOf s) → k < jobs (tasksOf s) i

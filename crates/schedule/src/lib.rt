@@ -29,7 +29,7 @@ ghost use Rattle.sheet.specs.Tasks.{tasksOf};
 ghost use Rattle.schedule.specs.Calls.{mostTicks};
 ghost use Rattle.schedule.specs.Promises.{SizesPromise, SizesRefusalPromise, ResponsesPromise, ResponsesRefusalPromise, TaskResponsesPromise};
 ghost use Rattle.schedule.specs.Conditions.{Period, lateOf, coming, PlaceOf, Level, Ready, Turned, Walk, Walked, Places, RowFilled, Noted, FoundTo, Filled};
-ghost use Rattle.schedule.specs.RowLaws.{Holds};
+ghost use Rattle.schedule.specs.Taken.{Holds};
 
 // "H at most 1,000,000; J at most 8,192"
 const MOST_TICKS: u32 = 1000000;

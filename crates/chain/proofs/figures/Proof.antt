@@ -11,8 +11,7 @@ use Rattle.sheet.specs.Sound.{Sound}
 use Rattle.sheet.specs.Tasks.{tasksOf, chainOf}
 use Rattle.schedule.specs.Calls.{responsesOf, toldTotals}
 use Rattle.schedule.specs.CallLaws.{responses-no}
-use Rattle.schedule.specs.Results.{Taken}
-use Rattle.schedule.specs.RowLaws.{Holds}
+use Rattle.schedule.specs.Taken.{Taken, Holds}
 use Rattle.chain.specs.declared.answer.Summary.{Summary}
 use Rattle.chain.specs.Calls.{summaryOf, figuresOf}
 use Rattle.chain.specs.Conditions.{TakenChain}

@@ -16,7 +16,7 @@ use Rattle.sheet.specs.Calls.{places}
 use Rattle.sheet.specs.PlaceLaws.{places-set}
 use Rattle.sheet.specs.Tasks.{tasksOf}
 use Rattle.sheet.specs.TaskLaws.{jobs-at, tasks-length}
-use Rattle.schedule.specs.RowLaws.{Holds}
+use Rattle.schedule.specs.Taken.{Holds}
 use Rattle.schedule.proofs.Entries.{part-length}
 use Rattle.schedule.proofs.Tasks.{jobs-next, jobs-most, jobs-within}
 use borrow.Author.Needs.{needs}

@@ -15,11 +15,12 @@ use Rattle.sheet.specs.declared.Reading.{Reading}
 use Rattle.sheet.specs.Calls.{readOf}
 use Rattle.sheet.specs.Told.{toldSheet}
 use Rattle.theory.specs.declared.Task.{Task}
+use Rattle.schedule.specs.Answer.{tasksOf}
 use Rattle.chain.specs.Answer.{leaves}
 use Rattle.bellkettle.specs.declared.Reply.{Reply}
 use Rattle.bellkettle.specs.Numbers.{inNumbers}
-use Rattle.bellkettle.specs.Promises.{Returned, lentAfter}
-use Rattle.bellkettle.specs.Replies.{valuesIn, Tells}
+use Rattle.bellkettle.specs.Promises.{Returned}
+use Rattle.bellkettle.specs.Replies.{valuesTold, Tells}
 
 -- A reply tells one answer, by whatever name.
 pub tells-as : {reply : Reply} {a b : Answer (List ℤ)} → Tells reply a → a ≡ b → Tells reply b
@@ -27,7 +28,7 @@ tells-as {reply = reply} h e = subst (λ x. Tells reply x) e h
 
 -- What is handed over is what the reply tells.
 pub told-returned : {reply : Reply} {a : Answer (List ℤ)} (old : List ℤ) {returned : ℕ} {values : List ℤ}
-    → Tells reply a → (returned ≡ reply .number) × (values ≡ sets old 0 (valuesIn reply)) → Returned a returned old values
+    → Tells reply a → (returned ≡ reply .number) × (values ≡ sets old 0 (valuesTold reply)) → Returned a returned old values
 told-returned old t h = (h .0 ∙ t .number-is, h .1 ∙ ap (λ l. sets old 0 l) (t .values-are))
 
 -- An answer in numbers leaves what it left.
@@ -36,10 +37,10 @@ leaves-told (given x) numbers ts old = refl
 leaves-told (refused number values) numbers ts old = refl
 
 -- What a call below told and left, in numbers.
-pub told-left : {A : Type 0} {reply : Reply} {told answer : Answer A} (numbers : A → List ℤ) (ts : List Task) (old : List ℕ) {table : List ℕ}
-    → Tells reply (inNumbers numbers told) → told ≡ answer → table ≡ leaves answer ts old
-    → Tells reply (inNumbers numbers answer) × (table ≡ leaves (inNumbers numbers answer) ts old)
-told-left {answer = answer} numbers ts old t e l = (tells-as t (ap (inNumbers numbers) e), l ∙ leaves-told answer numbers ts old)
+pub told-left : {A : Type 0} {reply : Reply} {told answer : Answer A} (numbers : A → List ℤ) (s : Sheet) (old : List ℕ) {table : List ℕ}
+    → Tells reply (inNumbers numbers told) → told ≡ answer → table ≡ leaves answer (tasksOf s) old
+    → Tells reply (inNumbers numbers answer) × (table ≡ leaves (inNumbers numbers answer) (tasksOf s) old)
+told-left {answer = answer} numbers s old t e l = (tells-as t (ap (inNumbers numbers) e), l ∙ leaves-told answer numbers (tasksOf s) old)
 
 -- ---- bytes that were read
 

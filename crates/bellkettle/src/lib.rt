@@ -28,7 +28,7 @@ ghost use Rattle.chain.specs.Answer.{leaves, toldDelay, toldWorst, toldBound, t
 ghost use Rattle.bellkettle.specs.Numbers.{inNumbers, alone, signed, totalsNumbers, figureNumbers, summaryNumbers, countNumbers, answerTo};
 ghost use Rattle.bellkettle.specs.Fields.{periodsIn, budgetsIn, ranksIn, entriesIn, sixteen, counted, tasksCounted, taskFrom, entryFrom, sheetFrom};
 ghost use Rattle.bellkettle.specs.Promises.{SheetAsked, SheetRead, SheetWritten};
-ghost use Rattle.bellkettle.specs.Replies.{valuesIn, Tells, delayRefusal, worstRefusal, boundRefusal, marginRefusal, figuresRefusal, writtenRefusal, sizeIn};
+ghost use Rattle.bellkettle.specs.Replies.{valuesTold, Tells, delayRefusal, worstRefusal, boundRefusal, marginRefusal, figuresRefusal, writtenRefusal, sizeIn};
 
 // What is asked of a sheet.
 enum Question {
@@ -78,7 +78,7 @@ fn refuse(r: Refusal) -> Reply
     }
 }
 
-// The refusal in an answer that gives nothing else. Number 0, which no refusal has, stands for none.
+// The refusals in answers that give nothing else. Number 0, which no refusal has, stands for none.
 fn delay_refusal(d: Delay) -> Refusal
     ensures { λ r. ⌜ r ≡ delayRefusal d ⌝ }
 {
@@ -133,6 +133,7 @@ fn written_refusal(w: Written) -> Refusal
     r
 }
 
+// What is given, in numbers: in the order that include/bellkettle.h lists.
 fn alone(n: u32) -> Reply
     ensures { λ reply. ⌜ Tells reply (given (alone n)) ⌝ }
 {
@@ -163,7 +164,6 @@ fn figure_numbers(f: Figure) -> Reply
     }
 }
 
-// n and m.
 fn count_numbers(s: Sheet) -> Reply
     ensures { λ reply. ⌜ Tells reply (given (countNumbers s)) ⌝ }
 {
@@ -186,7 +186,6 @@ fn totals_numbers(t: Totals) -> Reply
     }
 }
 
-// H, J and idle, the worst figure and its release, the bound, the margin.
 fn summary_numbers(s: Summary) -> Reply
     ensures { λ reply. ⌜ Tells reply (given (summaryNumbers s)) ⌝ }
 {
@@ -205,6 +204,7 @@ fn summary_numbers(s: Summary) -> Reply
     }
 }
 
+// "a refusal met on the way is handed up unchanged"
 fn responses_reply(a: Responses) -> Reply
     ensures { λ reply. ⌜ Tells reply (inNumbers totalsNumbers (toldTotals a)) ⌝ }
 {
@@ -302,7 +302,7 @@ fn put(values: &mut [i64], i: usize, x: i64)
 fn hand(reply: Reply, values: &mut [i64]) -> u8
     requires { ⌜ reply .count ≤ 7 ⌝ }
     ensures { λ n. ⌜ n ≡ reply .number ⌝ }
-    ensures { λ _. ⌜ now (values .exit) ≡ sets (now (values .entry)) 0 (valuesIn reply) ⌝ }
+    ensures { λ _. ⌜ now (values .exit) ≡ sets (now (values .entry)) 0 (valuesTold reply) ⌝ }
 {
     let mut i = 0usize;
     while i < reply.count {

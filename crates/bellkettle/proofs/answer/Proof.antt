@@ -80,7 +80,7 @@ returns c =
     let below = c .before .before .before in
     let asked = below .before .before in
     let a = asked .before .before .before .args in
-    rw (asked .enum-told .given .1) (told-left totalsNumbers (tasksOf (a .s)) (a .table .now) (c .responses-reply .ensures) (below .responses .ensures .0) (below .responses .ensures .1 ∙ table-leaves (responsesOf (a .s) (length (a .table .now))) (tasksOf (a .s)) (a .table .now)))
+    rw (asked .enum-told .given .1) (told-left totalsNumbers (a .s) (a .table .now) (c .responses-reply .ensures) (below .responses .ensures .0) (below .responses .ensures .1 ∙ table-leaves (responsesOf (a .s) (length (a .table .now))) (tasksOf (a .s)) (a .table .now)))
 
 same-length-2 : tie.Need-same-length-2
 same-length-2 c = search needs
@@ -90,7 +90,7 @@ returns-2 c =
     let below = c .before .before .before in
     let asked = below .before .before .before in
     let a = asked .before .before .before .args in
-    rw (asked .question .given .1) (told-left alone (tasksOf (a .s)) (a .table .now) (c .delay-reply .ensures) (below .delay .ensures .0) (below .delay .ensures .1))
+    rw (asked .question .given .1) (told-left alone (a .s) (a .table .now) (c .delay-reply .ensures) (below .delay .ensures .0) (below .delay .ensures .1))
 
 same-length-3 : tie.Need-same-length-3
 same-length-3 c = search needs
@@ -100,7 +100,7 @@ returns-3 c =
     let below = c .before .before .before in
     let asked = below .before .before in
     let a = asked .before .before .before .args in
-    rw (asked .enum-told2 .given .1) (told-left figureNumbers (tasksOf (a .s)) (a .table .now) (c .worst-reply .ensures) (below .worst .ensures .0) (below .worst .ensures .1))
+    rw (asked .enum-told2 .given .1) (told-left figureNumbers (a .s) (a .table .now) (c .worst-reply .ensures) (below .worst .ensures .0) (below .worst .ensures .1))
 
 same-length-4 : tie.Need-same-length-4
 same-length-4 c = search needs
@@ -110,7 +110,7 @@ returns-4 c =
     let below = c .before .before .before in
     let asked = below .before .before in
     let a = asked .before .before .before .args in
-    rw (asked .enum-told3 .given .1) (told-left alone (tasksOf (a .s)) (a .table .now) (c .bound-reply .ensures) (below .bound .ensures .0) (below .bound .ensures .1))
+    rw (asked .enum-told3 .given .1) (told-left alone (a .s) (a .table .now) (c .bound-reply .ensures) (below .bound .ensures .0) (below .bound .ensures .1))
 
 same-length-5 : tie.Need-same-length-5
 same-length-5 c = search needs
@@ -120,7 +120,7 @@ returns-5 c =
     let below = c .before .before .before in
     let asked = below .before .before .before in
     let a = asked .before .before .before .args in
-    rw (asked .question2 .given .1) (told-left signed (tasksOf (a .s)) (a .table .now) (c .margin-reply .ensures) (below .margin .ensures .0) (below .margin .ensures .1))
+    rw (asked .question2 .given .1) (told-left signed (a .s) (a .table .now) (c .margin-reply .ensures) (below .margin .ensures .0) (below .margin .ensures .1))
 
 same-length-6 : tie.Need-same-length-6
 same-length-6 c = search needs
@@ -130,7 +130,7 @@ returns-6 c =
     let below = c .before .before .before in
     let asked = below .before .before in
     let a = asked .before .before .before .args in
-    rw (asked .enum-told4 .given .1) (told-left signed (tasksOf (a .s)) (a .table .now) (c .margin-reply2 .ensures) (below .default-margin .ensures .0) (below .default-margin .ensures .1))
+    rw (asked .enum-told4 .given .1) (told-left signed (a .s) (a .table .now) (c .margin-reply2 .ensures) (below .default-margin .ensures .0) (below .default-margin .ensures .1))
 
 same-length-7 : tie.Need-same-length-7
 same-length-7 c = search needs
@@ -140,7 +140,7 @@ returns-7 c =
     let below = c .before .before .before in
     let asked = below .before .before in
     let a = asked .before .before .before .args in
-    rw (asked .enum-told5 .given .1) (told-left summaryNumbers (tasksOf (a .s)) (a .table .now) (c .figures-reply .ensures) (below .figures .ensures .0) (below .figures .ensures .1 .0))
+    rw (asked .enum-told5 .given .1) (told-left summaryNumbers (a .s) (a .table .now) (c .figures-reply .ensures) (below .figures .ensures .0) (below .figures .ensures .1 .0))
 
 pub answer-spec : {M : Type 1} → statement M
 answer-spec =

@@ -1,7 +1,4 @@
 -- The number is told, and a value that comes with it is the first.
-use mathlib.Core.Path.{refl, ap}
-use mathlib.Core.List.{[], _∷_}
-use native.Mathlib.Omega.{arith}
 use borrow.Author.Needs.{needs}
 use Rattle.bellkettle.proofs.refuse.Statement.{statement}
 use Rattle.bellkettle.proofs.refuse.Tie as tie

@@ -4,7 +4,6 @@ use lib.IntN.{ℤ}
 use mir.Syntax.{w32, w64}
 use mir.Val.{SFits, toZ, ofZ}
 use mir.Facts.{sfits-widen, toZ-ofZ}
-use borrow.Author.Needs.{needs}
 use Rattle.bellkettle.proofs.wide_signed.Statement.{statement}
 use Rattle.bellkettle.proofs.wide_signed.Tie as tie
 

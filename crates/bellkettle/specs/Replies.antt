@@ -11,14 +11,14 @@ use Rattle.bellkettle.specs.declared.Reply.{Reply}
 use Rattle.bellkettle.specs.Numbers.{numberOf, valuesOf}
 
 -- The values of a reply.
-abbrev pub valuesIn : Reply → List ℤ
-valuesIn reply = take (reply .count) (reply .values)
+abbrev pub valuesTold : Reply → List ℤ
+valuesTold reply = take (reply .count) (reply .values)
 
 -- A reply has the number and the values of an answer.
 pub record Tells (reply : Reply) (answer : Answer (List ℤ)) : Type 0 where
   pub count-most : reply .count ≤ 7
   pub number-is : reply .number ≡ numberOf answer
-  pub values-are : valuesIn reply ≡ valuesOf answer
+  pub values-are : valuesTold reply ≡ valuesOf answer
 
 -- The size of what was written.
 abbrev pub sizeIn : Written → ℕ

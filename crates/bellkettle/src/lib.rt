@@ -30,7 +30,7 @@ ghost use Rattle.chain.specs.Calls.{toldDelay, toldWorst, toldBound, toldMargin
 ghost use Rattle.bellkettle.specs.Numbers.{inNumbers, alone, signed, totalsNumbers, figureNumbers, summaryNumbers, countNumbers, answerTo};
 ghost use Rattle.bellkettle.specs.Fields.{periodsIn, budgetsIn, ranksIn, entriesIn, sixteen, counted, tasksCounted, taskFrom, entryFrom, sheetFrom};
 ghost use Rattle.bellkettle.specs.Promises.{SheetAsked, SheetRead, SheetWritten};
-ghost use Rattle.bellkettle.specs.Replies.{valuesIn, Tells, sizeIn};
+ghost use Rattle.bellkettle.specs.Replies.{valuesTold, Tells, sizeIn};
 
 // What is asked of a sheet.
 enum Question {
@@ -110,7 +110,6 @@ fn figure_numbers(f: Figure) -> Reply
     }
 }
 
-// n and m.
 fn count_numbers(s: Sheet) -> Reply
     ensures { λ reply. ⌜ Tells reply (given (countNumbers s)) ⌝ }
 {
@@ -133,7 +132,6 @@ fn totals_numbers(t: Totals) -> Reply
     }
 }
 
-// H, J and idle, the worst figure and its release, the bound, the margin.
 fn summary_numbers(s: Summary) -> Reply
     ensures { λ reply. ⌜ Tells reply (given (summaryNumbers s)) ⌝ }
 {
@@ -152,6 +150,7 @@ fn summary_numbers(s: Summary) -> Reply
     }
 }
 
+// "a refusal met on the way is handed up unchanged"
 fn responses_reply(a: Responses) -> Reply
     ensures { λ reply. ⌜ Tells reply (inNumbers totalsNumbers (toldTotals a)) ⌝ }
 {
@@ -249,7 +248,7 @@ fn put(values: &mut [i64], i: usize, x: i64)
 fn hand(reply: Reply, values: &mut [i64]) -> u8
     requires { ⌜ reply .count ≤ 7 ⌝ }
     ensures { λ n. ⌜ n ≡ reply .number ⌝ }
-    ensures { λ _. ⌜ now (values .exit) ≡ sets (now (values .entry)) 0 (valuesIn reply) ⌝ }
+    ensures { λ _. ⌜ now (values .exit) ≡ sets (now (values .entry)) 0 (valuesTold reply) ⌝ }
 {
     let mut i = 0usize;
     while i < reply.count {

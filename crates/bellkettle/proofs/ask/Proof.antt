@@ -7,27 +7,6 @@ use borrow.Author.Needs.{needs}
 use Rattle.bellkettle.proofs.ask.Statement.{statement}
 use Rattle.bellkettle.proofs.ask.Tie as tie
 
-read-requires : tie.Need-read-requires
-read-requires c κs = search needs
-
-enum-told : tie.Need-enum-told
-enum-told c = search needs
-
-enum-told-2 : tie.Need-enum-told-2
-enum-told-2 c = search needs
-
-refusal-of-requires : tie.Need-refusal-of-requires
-refusal-of-requires c κs = search needs
-
-refuse-requires : tie.Need-refuse-requires
-refuse-requires c κs = search needs
-
-hand-requires : tie.Need-hand-requires
-hand-requires c κs = search needs
-
-same-length : tie.Need-same-length
-same-length c = search needs
-
 returns : tie.Need-returns
 returns c =
     let refusing = c .before .before .before in
@@ -38,18 +17,6 @@ returns c =
     let no = judged .enum-told2 .given .1 in
     rw (read-no (start .args .sheet .now) (r .result) (r .ensures .0) no)
     (told-returned (start .args .values .now) (tells-as (refusing .refuse .ensures) (ap refusal (refusal-is (refusing .before .refusal-of .ensures) no))) (c .before .hand .ensures), refl)
-
-answer-requires : tie.Need-answer-requires
-answer-requires c κs = search needs
-
-hand-requires-2 : tie.Need-hand-requires-2
-hand-requires-2 c κs = search needs
-
-same-length-2 : tie.Need-same-length-2
-same-length-2 c = search needs
-
-same-length-3 : tie.Need-same-length-3
-same-length-3 c = search needs
 
 returns-2 : tie.Need-returns-2
 returns-2 c =
@@ -65,17 +32,6 @@ returns-2 c =
 pub ask-spec : {M : Type 1} → statement M
 ask-spec =
     tie.close
-    (tie.spec
-    read-requires
-    enum-told
-    enum-told-2
-    refusal-of-requires
-    refuse-requires
-    hand-requires
-    same-length
-    returns
-    answer-requires
-    hand-requires-2
-    same-length-2
-    same-length-3
-    returns-2)
+    (tie.spec (λ c κs. search needs) (λ c. search needs) (λ c. search needs) (λ c κs. search needs)
+    (λ c κs. search needs) (λ c κs. search needs) (λ c. search needs) returns (λ c κs. search needs)
+    (λ c κs. search needs) (λ c. search needs) (λ c. search needs) returns-2)

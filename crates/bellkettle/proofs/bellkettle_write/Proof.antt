@@ -10,12 +10,6 @@ use borrow.Author.Needs.{needs}
 use Rattle.bellkettle.proofs.bellkettle_write.Statement.{statement}
 use Rattle.bellkettle.proofs.bellkettle_write.Tie as tie
 
-sheet-from-requires : tie.Need-sheet-from-requires
-sheet-from-requires c κs = search needs
-
-write-requires : tie.Need-write-requires
-write-requires c κs = search needs
-
 written-reply-requires : tie.Need-written-reply-requires
 written-reply-requires c κs =
     let made = c .before .before .before .before in
@@ -23,15 +17,6 @@ written-reply-requires c κs =
     let start = lent .before .before .before in
     let w = c .before .before .write in
     size-most (made .sheet-from .result) (length (start .args .out .now)) (w .result) (w .ensures .0)
-
-hand-requires : tie.Need-hand-requires
-hand-requires c κs = search needs
-
-same-length : tie.Need-same-length
-same-length c = search needs
-
-same-length-2 : tie.Need-same-length-2
-same-length-2 c = search needs
 
 returns : tie.Need-returns
 returns c =
@@ -50,11 +35,5 @@ returns c =
 pub bellkettle-write-spec : {M : Type 1} → statement M
 bellkettle-write-spec =
     tie.close
-    (tie.spec
-    sheet-from-requires
-    write-requires
-    written-reply-requires
-    hand-requires
-    same-length
-    same-length-2
-    returns)
+    (tie.spec (λ c κs. search needs) (λ c κs. search needs) written-reply-requires (λ c κs. search needs)
+    (λ c. search needs) (λ c. search needs) returns)

@@ -9,29 +9,15 @@ use borrow.Author.Needs.{needs}
 use Rattle.bellkettle.proofs.figures_reply.Statement.{statement}
 use Rattle.bellkettle.proofs.figures_reply.Tie as tie
 
-enum-known-f : tie.Need-enum-known-f
-enum-known-f c = search needs
-
-enum-told : tie.Need-enum-told
-enum-told c = search needs
-
-figures-refusal-requires : tie.Need-figures-refusal-requires
-figures-refusal-requires c κs = search needs
-
-refuse-requires : tie.Need-refuse-requires
-refuse-requires c κs = search needs
-
 returns : tie.Need-returns
 returns c =
     let no = c .before .before .enum-told .given .1 in
     tells-as (c .refuse .ensures) (ap refusal (c .before .figures-refusal .ensures ∙ ap figuresRefusal no) ∙ sym (ap (λ x. inNumbers summaryNumbers (toldFigures x)) no))
-
-summary-numbers-requires : tie.Need-summary-numbers-requires
-summary-numbers-requires c κs = search needs
 
 returns-2 : tie.Need-returns-2
 returns-2 c = tells-as (c .summary-numbers .ensures) (sym (ap (λ x. inNumbers summaryNumbers (toldFigures x)) (c .before .before .f .given .1)))
 
 pub figures-reply-spec : {M : Type 1} → statement M
 figures-reply-spec =
-    tie.close (tie.spec enum-known-f enum-told figures-refusal-requires refuse-requires returns summary-numbers-requires returns-2)
+    tie.close (tie.spec (λ c. search needs) (λ c. search needs) (λ c κs. search needs) (λ c κs. search needs) returns
+    (λ c κs. search needs) returns-2)

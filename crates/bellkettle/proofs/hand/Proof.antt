@@ -18,6 +18,10 @@ Inv-loop values₀ reply i₀ values i = (i ≤ reply .count) × (values ≡ set
 abbrev μ-loop : tie.MeasureT-loop
 μ-loop values₀ reply i₀ values i = reply .count - i
 
+-- The turn that a value was put in.
+abbrev turn : tie.After-values Inv-loop μ-loop → tie.At-loop Inv-loop μ-loop
+turn c = c .before .before .before .before .before
+
 loop-holds : tie.Need-loop-holds Inv-loop μ-loop
 loop-holds c = (omega arith, refl)
 
@@ -27,25 +31,19 @@ mul-put c = omega (arith, c .before .before .before .pre)
 element-copy-out-put : tie.Need-element-copy-out-put Inv-loop μ-loop
 element-copy-out-put c = omega (arith, c .before .before .before .pre)
 
-put-requires : tie.Need-put-requires Inv-loop μ-loop
-put-requires c κs = search needs
-
 add-i : tie.Need-add-i Inv-loop μ-loop
-add-i c = let turn = c .before .before .before .before .before in omega (arith, turn .before .pre)
-
-loop-less : tie.Need-loop-less Inv-loop μ-loop
-loop-less c = search needs
+add-i c = omega (arith, turn c .before .pre)
 
 loop-again : tie.Need-loop-again Inv-loop μ-loop
 loop-again c =
-    let turn = c .before .before .before .before .before in
-    let start = turn .before in
+    let start = turn c .before in
+    let l = turn c .loop in
     let reply = start .args .t1 in
     let seven : length (reply .values) ≡ 7 = sym (length-map (reply .values) _) ∙ start .good .0 .1 .1 .1 .1 .0 .1 .0 .1 in (
       omega arith,
       c .before .put .ensures
-          ∙ ap₂ (λ l z. set l (turn .loop .i) z) (turn .loop .inv .1) (toZ-ofZ {w = w64} (record { sfits = c .before .before .put-arg2 .given }))
-          ∙ sets-take (pos 0) (turn .loop .i) (reply .values) (start .args .values .now) (omega (arith, start .pre, seven)),
+          ∙ ap₂ (λ x z. set x (l .i) z) (l .inv .1) (toZ-ofZ {w = w64} (record { sfits = c .before .before .put-arg2 .given }))
+          ∙ sets-take (pos 0) (l .i) (reply .values) (start .args .values .now) (omega (arith, start .pre, seven)),
     )
 
 same-length : tie.Need-same-length Inv-loop μ-loop
@@ -60,15 +58,5 @@ returns c =
 pub hand-spec : {M : Type 1} → statement M
 hand-spec =
     tie.close
-    (tie.spec
-    Inv-loop
-    μ-loop
-    loop-holds
-    mul-put
-    element-copy-out-put
-    put-requires
-    add-i
-    loop-less
-    loop-again
-    same-length
-    returns)
+    (tie.spec Inv-loop μ-loop loop-holds mul-put element-copy-out-put (λ c κs. search needs) add-i (λ c. search needs)
+    loop-again same-length returns)

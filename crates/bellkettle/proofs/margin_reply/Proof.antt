@@ -11,25 +11,10 @@ use borrow.Author.Needs.{needs}
 use Rattle.bellkettle.proofs.margin_reply.Statement.{statement}
 use Rattle.bellkettle.proofs.margin_reply.Tie as tie
 
-enum-known-m : tie.Need-enum-known-m
-enum-known-m c = search needs
-
-enum-told : tie.Need-enum-told
-enum-told c = search needs
-
-margin-refusal-requires : tie.Need-margin-refusal-requires
-margin-refusal-requires c κs = search needs
-
-refuse-requires : tie.Need-refuse-requires
-refuse-requires c κs = search needs
-
 returns : tie.Need-returns
 returns c =
     let no = c .before .before .enum-told .given .1 in
     tells-as (c .refuse .ensures) (ap refusal (c .before .margin-refusal .ensures ∙ ap marginRefusal no) ∙ sym (ap (λ x. inNumbers signed (toldMargin x)) no))
-
-signed-requires : tie.Need-signed-requires
-signed-requires c κs = search needs
 
 returns-2 : tie.Need-returns-2
 returns-2 c = tells-as (c .signed .ensures) (ap (λ z. given (signed z)) (toZ-ofZ {w = w32} (record { sfits = c .before .known-told .given .0 .1 }))
@@ -37,4 +22,5 @@ returns-2 c = tells-as (c .signed .ensures) (ap (λ z. given (signed z)) (toZ-of
 
 pub margin-reply-spec : {M : Type 1} → statement M
 margin-reply-spec =
-    tie.close (tie.spec enum-known-m enum-told margin-refusal-requires refuse-requires returns signed-requires returns-2)
+    tie.close (tie.spec (λ c. search needs) (λ c. search needs) (λ c κs. search needs) (λ c κs. search needs) returns
+    (λ c κs. search needs) returns-2)

@@ -7,11 +7,8 @@ use borrow.Author.Needs.{needs}
 use Rattle.bellkettle.proofs.signed.Statement.{statement}
 use Rattle.bellkettle.proofs.signed.Tie as tie
 
-wide-signed-requires : tie.Need-wide-signed-requires
-wide-signed-requires c κs = search needs
-
 returns : tie.Need-returns
 returns c = search (needs, kept (c .wide-signed .ok) (c .wide-signed .ensures ∙ toZ-ofZ {w = w32} (c .before .fits .z)))
 
 pub signed-spec : {M : Type 1} → statement M
-signed-spec = tie.close (tie.spec wide-signed-requires returns)
+signed-spec = tie.close (tie.spec (λ c κs. search needs) returns)

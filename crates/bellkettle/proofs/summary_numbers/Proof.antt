@@ -8,27 +8,6 @@ use borrow.Author.Needs.{needs}
 use Rattle.bellkettle.proofs.summary_numbers.Statement.{statement}
 use Rattle.bellkettle.proofs.summary_numbers.Tie as tie
 
-wide-requires : tie.Need-wide-requires
-wide-requires c κs = search needs
-
-wide-requires-2 : tie.Need-wide-requires-2
-wide-requires-2 c κs = search needs
-
-wide-requires-3 : tie.Need-wide-requires-3
-wide-requires-3 c κs = search needs
-
-wide-requires-4 : tie.Need-wide-requires-4
-wide-requires-4 c κs = search needs
-
-wide-requires-5 : tie.Need-wide-requires-5
-wide-requires-5 c κs = search needs
-
-wide-requires-6 : tie.Need-wide-requires-6
-wide-requires-6 c κs = search needs
-
-wide-signed-requires : tie.Need-wide-signed-requires
-wide-signed-requires c κs = search needs
-
 returns : tie.Need-returns
 returns c =
     let told = c .before in
@@ -42,18 +21,20 @@ returns c =
     record {
       count-most = omega arith;
       number-is = refl;
-      values-are = rw (kept (first .wide .ok) (first .wide .ensures), kept (second .wide2 .ok) (second .wide2 .ensures), kept (third .wide3 .ok) (third .wide3 .ensures), kept (fourth .wide4 .ok) (fourth .wide4 .ensures), kept (fifth .wide5 .ok) (fifth .wide5 .ensures), kept (sixth .wide6 .ok) (sixth .wide6 .ensures), margin) refl;
+      values-are =
+          rw (
+            kept (first .wide .ok) (first .wide .ensures),
+            kept (second .wide2 .ok) (second .wide2 .ensures),
+            kept (third .wide3 .ok) (third .wide3 .ensures),
+            kept (fourth .wide4 .ok) (fourth .wide4 .ensures),
+            kept (fifth .wide5 .ok) (fifth .wide5 .ensures),
+            kept (sixth .wide6 .ok) (sixth .wide6 .ensures),
+            margin,
+          ) refl;
     }
 
 pub summary-numbers-spec : {M : Type 1} → statement M
 summary-numbers-spec =
     tie.close
-    (tie.spec
-    wide-requires
-    wide-requires-2
-    wide-requires-3
-    wide-requires-4
-    wide-requires-5
-    wide-requires-6
-    wide-signed-requires
-    returns)
+    (tie.spec (λ c κs. search needs) (λ c κs. search needs) (λ c κs. search needs) (λ c κs. search needs)
+    (λ c κs. search needs) (λ c κs. search needs) (λ c κs. search needs) returns)

@@ -6,11 +6,8 @@ use borrow.Author.Needs.{needs}
 use Rattle.bellkettle.proofs.wide.Statement.{statement}
 use Rattle.bellkettle.proofs.wide.Tie as tie
 
-cast-result : tie.Need-cast-result
-cast-result c = search needs
-
 returns : tie.Need-returns
 returns c = toZ-pos w64 (c .args .x) (omega arith)
 
 pub wide-spec : {M : Type 1} → statement M
-wide-spec = tie.close (tie.spec cast-result returns)
+wide-spec = tie.close (tie.spec (λ c. search needs) returns)

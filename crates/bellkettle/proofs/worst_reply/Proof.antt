@@ -9,29 +9,15 @@ use borrow.Author.Needs.{needs}
 use Rattle.bellkettle.proofs.worst_reply.Statement.{statement}
 use Rattle.bellkettle.proofs.worst_reply.Tie as tie
 
-enum-known-w : tie.Need-enum-known-w
-enum-known-w c = search needs
-
-enum-told : tie.Need-enum-told
-enum-told c = search needs
-
-worst-refusal-requires : tie.Need-worst-refusal-requires
-worst-refusal-requires c κs = search needs
-
-refuse-requires : tie.Need-refuse-requires
-refuse-requires c κs = search needs
-
 returns : tie.Need-returns
 returns c =
     let no = c .before .before .enum-told .given .1 in
     tells-as (c .refuse .ensures) (ap refusal (c .before .worst-refusal .ensures ∙ ap worstRefusal no) ∙ sym (ap (λ x. inNumbers figureNumbers (toldWorst x)) no))
-
-figure-numbers-requires : tie.Need-figure-numbers-requires
-figure-numbers-requires c κs = search needs
 
 returns-2 : tie.Need-returns-2
 returns-2 c = tells-as (c .figure-numbers .ensures) (sym (ap (λ x. inNumbers figureNumbers (toldWorst x)) (c .before .before .w .given .1)))
 
 pub worst-reply-spec : {M : Type 1} → statement M
 worst-reply-spec =
-    tie.close (tie.spec enum-known-w enum-told worst-refusal-requires refuse-requires returns figure-numbers-requires returns-2)
+    tie.close (tie.spec (λ c. search needs) (λ c. search needs) (λ c κs. search needs) (λ c κs. search needs) returns
+    (λ c κs. search needs) returns-2)

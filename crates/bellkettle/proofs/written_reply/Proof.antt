@@ -11,18 +11,6 @@ use borrow.Author.Needs.{needs}
 use Rattle.bellkettle.proofs.written_reply.Statement.{statement}
 use Rattle.bellkettle.proofs.written_reply.Tie as tie
 
-enum-known-w : tie.Need-enum-known-w
-enum-known-w c = search needs
-
-enum-told : tie.Need-enum-told
-enum-told c = search needs
-
-written-refusal-requires : tie.Need-written-refusal-requires
-written-refusal-requires c κs = search needs
-
-refuse-requires : tie.Need-refuse-requires
-refuse-requires c κs = search needs
-
 returns : tie.Need-returns
 returns c =
     let no = c .before .before .enum-told .given .1 in
@@ -31,12 +19,10 @@ returns c =
 cast-alone : tie.Need-cast-alone
 cast-alone c = omega (arith, ap sizeIn (c .before .w .given .1))
 
-alone-requires : tie.Need-alone-requires
-alone-requires c κs = search needs
-
 returns-2 : tie.Need-returns-2
 returns-2 c = tells-as (c .alone .ensures) (sym (ap (λ x. inNumbers alone (toldBytes x)) (c .before .before .w .given .1)))
 
 pub written-reply-spec : {M : Type 1} → statement M
 written-reply-spec =
-    tie.close (tie.spec enum-known-w enum-told written-refusal-requires refuse-requires returns cast-alone alone-requires returns-2)
+    tie.close (tie.spec (λ c. search needs) (λ c. search needs) (λ c κs. search needs) (λ c κs. search needs) returns cast-alone
+    (λ c κs. search needs) returns-2)

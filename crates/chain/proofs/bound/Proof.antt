@@ -24,21 +24,6 @@ done c = c .before .before .before .before
 filled : (c : tie.After-filled) → let a = start (done c) .args in responsesOf (a .s) (length (a .table .now)) ≡ given (c .filled .given .0 .0)
 filled c = sym (done c .responses .ensures .0) ∙ ap toldTotals (c .filled .given .1)
 
-responses-requires : tie.Need-responses-requires
-responses-requires c κs = search needs
-
-enum-known-filled : tie.Need-enum-known-filled
-enum-known-filled c = search needs
-
-enum-told : tie.Need-enum-told
-enum-told c = search needs
-
-responses-refusal-requires : tie.Need-responses-refusal-requires
-responses-refusal-requires c κs = search needs
-
-same-length : tie.Need-same-length
-same-length c = search needs
-
 returns : tie.Need-returns
 unfolding boundOf
 returns c =
@@ -54,9 +39,6 @@ bound-in-requires c κs =
     let a = start (done (c .before .before)) .args in
     filled-ready (a .s) (a .table .now) (filled (c .before .before)) (done (c .before .before) .responses .ensures .1)
 
-same-length-2 : tie.Need-same-length-2
-same-length-2 c = search needs
-
 returns-2 : tie.Need-returns-2
 unfolding boundOf
 returns-2 c =
@@ -68,13 +50,5 @@ returns-2 c =
 pub bound-spec : {M : Type 1} → statement M
 bound-spec =
     tie.close
-    (tie.spec
-    responses-requires
-    enum-known-filled
-    enum-told
-    responses-refusal-requires
-    same-length
-    returns
-    bound-in-requires
-    same-length-2
-    returns-2)
+    (tie.spec (λ c κs. search needs) (λ c. search needs) (λ c. search needs) (λ c κs. search needs) (λ c. search needs)
+    returns bound-in-requires (λ c. search needs) returns-2)

@@ -31,12 +31,6 @@ lent c = chain-length (c .pre .0 .0) (whole c)
 taken : (c : tie.Start) → TakenChain (tasksOf (c .args .s)) (chainOf (c .args .s))
 taken c = sheet-chain (c .pre .0 .0) (c .pre .0 .1)
 
-gather-tasks-requires : tie.Need-gather-tasks-requires
-gather-tasks-requires c κs = search needs
-
-cast-m : tie.Need-cast-m
-cast-m c = search needs
-
 array-share-prefix-chain : tie.Need-array-share-prefix-chain
 array-share-prefix-chain c =
     let s = start c in
@@ -60,10 +54,5 @@ returns c =
 pub bound-in-spec : {M : Type 1} → statement M
 bound-in-spec =
     tie.close
-    (tie.spec
-    gather-tasks-requires
-    cast-m
-    array-share-prefix-chain
-    slice-aggregate-bound-along
-    bound-along-requires
-    returns)
+    (tie.spec (λ c κs. search needs) (λ c. search needs) array-share-prefix-chain slice-aggregate-bound-along
+    bound-along-requires returns)

@@ -65,18 +65,6 @@ asked c = let a = start (sized c) .args in delay-asked (a .s) (length (a .table 
 filled : (c : tie.After-filled) → let a = start (sized (judged (done c))) .args in responsesOf (a .s) (length (a .table .now)) ≡ given (c .filled .given .0 .0)
 filled c = sym (done c .responses .ensures .0) ∙ ap toldTotals (c .filled .given .1)
 
-sizes-requires : tie.Need-sizes-requires
-sizes-requires c κs = search needs
-
-enum-known-z : tie.Need-enum-known-z
-enum-known-z c = search needs
-
-enum-told : tie.Need-enum-told
-enum-told c = search needs
-
-sizes-refusal-requires : tie.Need-sizes-refusal-requires
-sizes-refusal-requires c κs = search needs
-
 returns : tie.Need-returns
 unfolding delayOf
 returns c =
@@ -104,18 +92,6 @@ returns-3 c =
     let a = start (between c) .args in
     answers-number 12 (a .s) (a .table .now) (omega arith)
     (delay-between (a .s) (length (a .table .now)) (fits (between c)) (a .release) (early (c .before .before)) (rw (← c .before .first-period .ensures .0) (c .if2 .taken)))
-
-responses-requires : tie.Need-responses-requires
-responses-requires c κs = search needs
-
-enum-known-filled : tie.Need-enum-known-filled
-enum-known-filled c = search needs
-
-enum-told-2 : tie.Need-enum-told-2
-enum-told-2 c = search needs
-
-responses-refusal-requires : tie.Need-responses-refusal-requires
-responses-refusal-requires c κs = search needs
 
 same-length : tie.Need-same-length
 same-length c = refused (c .before) .responses .kept .1 .0
@@ -164,23 +140,6 @@ returns-5 c =
 pub delay-spec : {M : Type 1} → statement M
 delay-spec =
     tie.close
-    (tie.spec
-    sizes-requires
-    enum-known-z
-    enum-told
-    sizes-refusal-requires
-    returns
-    returns-2
-    first-period-requires
-    rem-if2
-    returns-3
-    responses-requires
-    enum-known-filled
-    enum-told-2
-    responses-refusal-requires
-    same-length
-    returns-4
-    div-delay-in
-    delay-in-requires
-    same-length-2
-    returns-5)
+    (tie.spec (λ c κs. search needs) (λ c. search needs) (λ c. search needs) (λ c κs. search needs) returns returns-2
+    first-period-requires rem-if2 returns-3 (λ c κs. search needs) (λ c. search needs) (λ c. search needs)
+    (λ c κs. search needs) same-length returns-4 div-delay-in delay-in-requires same-length-2 returns-5)

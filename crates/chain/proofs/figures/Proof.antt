@@ -37,21 +37,6 @@ module _ (c : tie.After-answer) where
   ready : (Sound (start .args .s) × Taken (tasksOf (start .args .s))) × ((c .answer .given .0 .0 .hyperperiod ≡ hyperperiod (tasksOf (start .args .s))) × Holds (tasksOf (start .args .s)) (done .task-responses .last .1 .0))
   ready = filled-ready (start .args .s) (start .args .table .now) filled (done .task-responses .ensures .0 .1)
 
-task-responses-requires : tie.Need-task-responses-requires
-task-responses-requires c κs = search needs
-
-enum-known-answer : tie.Need-enum-known-answer
-enum-known-answer c = search needs
-
-enum-told : tie.Need-enum-told
-enum-told c = search needs
-
-responses-refusal-requires : tie.Need-responses-refusal-requires
-responses-refusal-requires c κs = search needs
-
-same-length : tie.Need-same-length
-same-length c = search needs
-
 returns : tie.Need-returns
 unfolding figuresOf
 returns c =
@@ -72,9 +57,6 @@ bound-in-requires c κs = ready (c .before .before .before .before)
 less-of-requires : tie.Need-less-of-requires
 less-of-requires c κs = (omega arith, omega (arith, ap (λ f. f .ticks) (c .before .before .worst-in .ensures), worst-most (taken (c .before .before .before .before .before))))
 
-same-length-2 : tie.Need-same-length-2
-same-length-2 c = search needs
-
 returns-2 : tie.Need-returns-2
 unfolding figuresOf
 returns-2 c =
@@ -91,15 +73,5 @@ returns-2 c =
 pub figures-spec : {M : Type 1} → statement M
 figures-spec =
     tie.close
-    (tie.spec
-    task-responses-requires
-    enum-known-answer
-    enum-told
-    responses-refusal-requires
-    same-length
-    returns
-    worst-in-requires
-    bound-in-requires
-    less-of-requires
-    same-length-2
-    returns-2)
+    (tie.spec (λ c κs. search needs) (λ c. search needs) (λ c. search needs) (λ c κs. search needs) (λ c. search needs)
+    returns worst-in-requires bound-in-requires less-of-requires (λ c. search needs) returns-2)

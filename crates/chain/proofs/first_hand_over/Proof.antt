@@ -10,17 +10,11 @@ use Rattle.chain.proofs.first_hand_over.Tie as tie
 more : (c : tie.Else1) → 1 < length (c .before .before .before .before .args .chain .now)
 more c = let s = c .before .before .before .before in omega (arith, s .pre .0 .some, c .if1 .left)
 
-shared-slice-read-p : tie.Need-shared-slice-read-p
-shared-slice-read-p c = search needs
-
 cast-p : tie.Need-cast-p
 cast-p c = omega (arith, c .shared-slice-known3 .given 0)
 
 returns : tie.Need-returns
 returns c = let s = c .before .before .before .before in handed-one (s .args .ranks .now) (s .pre .0) (s .args .k) (c .if1 .taken)
-
-shared-slice-read-c : tie.Need-shared-slice-read-c
-shared-slice-read-c c = search needs
 
 cast-c : tie.Need-cast-c
 cast-c c = omega (arith, c .shared-slice-known4 .given 1)
@@ -38,11 +32,4 @@ returns-2 c =
 pub first-hand-over-spec : {M : Type 1} → statement M
 first-hand-over-spec =
     tie.close
-    (tie.spec
-    shared-slice-read-p
-    cast-p
-    returns
-    shared-slice-read-c
-    cast-c
-    hand-over-requires
-    returns-2)
+    (tie.spec (λ c. search needs) cast-p returns (λ c. search needs) cast-c hand-over-requires returns-2)

@@ -21,42 +21,12 @@ Inv-loop h periods₀ ranks₀ starts₀ counts₀ s n from₀ i₀ periods rank
 abbrev μ-loop : tie.MeasureT-loop
 μ-loop h periods₀ ranks₀ starts₀ counts₀ s n from₀ i₀ periods ranks starts counts from i = n - i
 
-cast-n : tie.Need-cast-n Inv-loop μ-loop
-cast-n c = search needs
-
 loop-holds : tie.Need-loop-holds Inv-loop μ-loop
 unfolding sum
 loop-holds c = let w = c .pre .1 .1 in (omega arith, refl, gathered-none (tasksOf (c .args .t1)) (w .0) (w .1) (w .2) (w .3))
 
-mul-t : tie.Need-mul-t Inv-loop μ-loop
-mul-t c = search needs
-
-element-copy-out-t : tie.Need-element-copy-out-t Inv-loop μ-loop
-element-copy-out-t c = search needs
-
 div-jobs : tie.Need-div-jobs Inv-loop μ-loop
 div-jobs c = let s = c .before .before .before .before in s .pre .0 .0 .period-least (c .before .before .before .loop .i) (omega arith)
-
-mul-periods : tie.Need-mul-periods Inv-loop μ-loop
-mul-periods c = search needs
-
-element-write-periods : tie.Need-element-write-periods Inv-loop μ-loop
-element-write-periods c = search needs
-
-element-write-ranks : tie.Need-element-write-ranks Inv-loop μ-loop
-element-write-ranks c = search needs
-
-mul-starts : tie.Need-mul-starts Inv-loop μ-loop
-mul-starts c = search needs
-
-element-write-starts : tie.Need-element-write-starts Inv-loop μ-loop
-element-write-starts c = search needs
-
-mul-counts : tie.Need-mul-counts Inv-loop μ-loop
-mul-counts c = search needs
-
-element-write-counts : tie.Need-element-write-counts Inv-loop μ-loop
-element-write-counts c = search needs
 
 add-from : tie.Need-add-from Inv-loop μ-loop
 add-from c =
@@ -64,12 +34,6 @@ add-from c =
     let l = c .before .before .before .loop in
     let known : l .i < s .args .t1 .count = omega arith in
     omega (arith, l .inv .1, jobs-at (s .pre .0 .0) (s .pre .1 .0) (l .i) known, row-few (s .pre .0 .1) (l .i) (omega (arith, tasks-length (s .pre .0 .0))))
-
-add-i : tie.Need-add-i Inv-loop μ-loop
-add-i c = search needs
-
-loop-less : tie.Need-loop-less Inv-loop μ-loop
-loop-less c = search needs
 
 loop-again : tie.Need-loop-again Inv-loop μ-loop
 unfolding sum
@@ -89,23 +53,6 @@ returns c =
 pub gather-tasks-spec : {M : Type 1} → statement M
 gather-tasks-spec =
     tie.close
-    (tie.spec
-    Inv-loop
-    μ-loop
-    cast-n
-    loop-holds
-    mul-t
-    element-copy-out-t
-    div-jobs
-    mul-periods
-    element-write-periods
-    element-write-ranks
-    mul-starts
-    element-write-starts
-    mul-counts
-    element-write-counts
-    add-from
-    add-i
-    loop-less
-    loop-again
-    returns)
+    (tie.spec Inv-loop μ-loop (λ c. search needs) loop-holds (λ c. search needs) (λ c. search needs) div-jobs
+    (λ c. search needs) (λ c. search needs) (λ c. search needs) (λ c. search needs) (λ c. search needs)
+    (λ c. search needs) (λ c. search needs) add-from (λ c. search needs) (λ c. search needs) loop-again returns)

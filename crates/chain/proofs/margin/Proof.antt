@@ -46,18 +46,6 @@ asked c = let a = start c .args in margin-asked (a .s) (length (a .table .now)) 
 known : (c : tie.After-w) → let a = start (allowed (done c)) .args in worstOf (a .s) (length (a .table .now)) ≡ given (c .w .given .0 .0)
 known c = sym (done c .worst .ensures .0) ∙ ap toldWorst (c .w .given .1)
 
-sizes-requires : tie.Need-sizes-requires
-sizes-requires c κs = search needs
-
-enum-told : tie.Need-enum-told
-enum-told c = search needs
-
-enum-told-2 : tie.Need-enum-told-2
-enum-told-2 c = search needs
-
-sizes-refusal-requires : tie.Need-sizes-refusal-requires
-sizes-refusal-requires c κs = search needs
-
 returns : tie.Need-returns
 unfolding marginOf
 returns c =
@@ -71,18 +59,6 @@ returns-2 : tie.Need-returns-2
 returns-2 c =
     let a = over c .args in
     answers-number 13 (a .s) (a .table .now) (omega arith) (margin-over (a .s) (length (a .table .now)) (fits c) (a .limit) (c .before .before .before .if1 .taken))
-
-worst-requires : tie.Need-worst-requires
-worst-requires c κs = search needs
-
-enum-known-w : tie.Need-enum-known-w
-enum-known-w c = search needs
-
-enum-told-3 : tie.Need-enum-told-3
-enum-told-3 c = search needs
-
-worst-refusal-requires : tie.Need-worst-refusal-requires
-worst-refusal-requires c κs = search needs
 
 same-length : tie.Need-same-length
 same-length c = refused (c .before) .worst .kept .1 .0
@@ -115,19 +91,6 @@ returns-4 c =
 pub margin-spec : {M : Type 1} → statement M
 margin-spec =
     tie.close
-    (tie.spec
-    sizes-requires
-    enum-told
-    enum-told-2
-    sizes-refusal-requires
-    returns
-    returns-2
-    worst-requires
-    enum-known-w
-    enum-told-3
-    worst-refusal-requires
-    same-length
-    returns-3
-    less-of-requires
-    same-length-2
-    returns-4)
+    (tie.spec (λ c κs. search needs) (λ c. search needs) (λ c. search needs) (λ c κs. search needs) returns returns-2
+    (λ c κs. search needs) (λ c. search needs) (λ c. search needs) (λ c κs. search needs) same-length returns-3
+    less-of-requires same-length-2 returns-4)

@@ -43,41 +43,8 @@ divisor c = c .before .before .before .before .before .before
 up-is : (c : tie.After-up) → let s = start c in c .up .result ≡ up (g s) (R s)
 up-is c = c .up .ensures ∙ ap₂ up (divisor c .gcd .ensures) (c .before .task-response .ensures)
 
-mul-gcd : tie.Need-mul-gcd
-mul-gcd c = search needs
-
-element-copy-out-gcd : tie.Need-element-copy-out-gcd
-element-copy-out-gcd c = search needs
-
-mul-gcd-2 : tie.Need-mul-gcd-2
-mul-gcd-2 c = search needs
-
-element-copy-out-gcd-2 : tie.Need-element-copy-out-gcd-2
-element-copy-out-gcd-2 c = search needs
-
-gcd-requires : tie.Need-gcd-requires
-gcd-requires c κs = search needs
-
-mul-ticks : tie.Need-mul-ticks
-mul-ticks c = search needs
-
-element-copy-out-ticks : tie.Need-element-copy-out-ticks
-element-copy-out-ticks c = search needs
-
 sub-ticks : tie.Need-sub-ticks
 sub-ticks c = omega (arith, c .before .gcd .ensures, g-most (c .before .before .before .before .before))
-
-element-copy-out-if1 : tie.Need-element-copy-out-if1
-element-copy-out-if1 c = search needs
-
-element-copy-out-if1-2 : tie.Need-element-copy-out-if1-2
-element-copy-out-if1-2 c = search needs
-
-task-response-requires : tie.Need-task-response-requires
-task-response-requires c κs = search needs
-
-up-requires : tie.Need-up-requires
-up-requires c κs = search needs
 
 cast-ticks : tie.Need-cast-ticks
 cast-ticks c = omega (arith, up-is c, up-most (start c))
@@ -102,20 +69,6 @@ returns-2 c =
 pub pair-bound-spec : {M : Type 1} → statement M
 pair-bound-spec =
     tie.close
-    (tie.spec
-    mul-gcd
-    element-copy-out-gcd
-    mul-gcd-2
-    element-copy-out-gcd-2
-    gcd-requires
-    mul-ticks
-    element-copy-out-ticks
-    sub-ticks
-    element-copy-out-if1
-    element-copy-out-if1-2
-    task-response-requires
-    up-requires
-    cast-ticks
-    add-ticks
-    returns
-    returns-2)
+    (tie.spec (λ c. search needs) (λ c. search needs) (λ c. search needs) (λ c. search needs) (λ c κs. search needs)
+    (λ c. search needs) (λ c. search needs) sub-ticks (λ c. search needs) (λ c. search needs) (λ c κs. search needs)
+    (λ c κs. search needs) cast-ticks add-ticks returns returns-2)

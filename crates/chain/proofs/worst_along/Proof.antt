@@ -87,9 +87,6 @@ module _ (c : tie.After-struct-known Inv-loop μ-loop) where
         mul-le-mul (le-refl (c .before .first-hand-over .result .job)) (next .period-positive),
       )
 
-shared-slice-read-p : tie.Need-shared-slice-read-p Inv-loop μ-loop
-shared-slice-read-p c = search needs
-
 cast-p : tie.Need-cast-p Inv-loop μ-loop
 cast-p c = omega (arith, entry (c .before .before .before) .row .known)
 
@@ -98,9 +95,6 @@ mul-n c = omega (arith, entry (c .before .before .before) .row .known)
 
 element-copy-out-n : tie.Need-element-copy-out-n Inv-loop μ-loop
 element-copy-out-n c = entry (c .before .before .before) .row .known
-
-onward-requires : tie.Need-onward-requires Inv-loop μ-loop
-onward-requires c κs = search needs
 
 loop-holds : tie.Need-loop-holds Inv-loop μ-loop
 loop-holds c = (omega arith, followed-none _ _ _ _ _ _ _)
@@ -125,9 +119,6 @@ sub-walk c =
 part-walk-start : tie.Need-part-walk-start Inv-loop μ-loop
 part-walk-start c = from-within (c .before .before)
 
-part-walk-end : tie.Need-part-walk-end Inv-loop μ-loop
-part-walk-end c = search needs
-
 walk-requires : tie.Need-walk-requires Inv-loop μ-loop
 walk-requires c κs =
     let b = c .before .before .before in
@@ -140,9 +131,6 @@ add-delay c =
 
 add-k : tie.Need-add-k Inv-loop μ-loop
 add-k c = let s = start (c .before) in omega (arith, c .before .before .before .before .loop .inv .0, entry s .row .few, c .before .before .before .loop-test .taken)
-
-loop-less : tie.Need-loop-less Inv-loop μ-loop
-loop-less c = search needs
 
 loop-again : tie.Need-loop-again Inv-loop μ-loop
 loop-again c =
@@ -188,27 +176,6 @@ returns c =
 pub worst-along-spec : {M : Type 1} → statement M
 worst-along-spec =
     tie.close
-    (tie.spec
-    Inv-loop
-    μ-loop
-    shared-slice-read-p
-    cast-p
-    mul-n
-    element-copy-out-n
-    onward-requires
-    loop-holds
-    first-hand-over-requires
-    add-if1
-    add-followed
-    sub-walk
-    part-walk-start
-    part-walk-end
-    walk-requires
-    add-delay
-    add-k
-    loop-less
-    loop-again
-    mul-release
-    element-copy-out-release
-    mul-release-2
-    returns)
+    (tie.spec Inv-loop μ-loop (λ c. search needs) cast-p mul-n element-copy-out-n (λ c κs. search needs) loop-holds
+    first-hand-over-requires add-if1 add-followed sub-walk part-walk-start (λ c. search needs) walk-requires add-delay
+    add-k (λ c. search needs) loop-again mul-release element-copy-out-release mul-release-2 returns)

@@ -16,23 +16,11 @@ gathered c = c .before .before .before .before
 abbrev walked : tie.After-slice-known2 → tie.After-walk-row-arg2
 walked c = c .before .before .before
 
-gather-level-requires : tie.Need-gather-level-requires
-gather-level-requires c κs = search needs
-
-mul-walk-row : tie.Need-mul-walk-row
-mul-walk-row c = search needs
-
-element-copy-out-walk-row : tie.Need-element-copy-out-walk-row
-element-copy-out-walk-row c = search needs
-
 walk-row-requires : tie.Need-walk-row-requires
 walk-row-requires c κs =
     let a = start c in
     let g = gathered c .gather-level .ensures in
     (g .places, rw (← task-at (a .pre .0) (a .args .i) (a .pre .1 .1 .0), coming-load g, a .pre .1 .1 .1) (walkable (a .pre .0) (a .args .i) (a .pre .1 .1 .0) (a .pre .1 .0)))
-
-same-length : tie.Need-same-length
-same-length c = search needs
 
 returns : tie.Need-returns
 returns c =
@@ -44,4 +32,5 @@ returns c =
 pub fill-row-spec : {M : Type 1} → statement M
 fill-row-spec =
     tie.close
-    (tie.spec gather-level-requires mul-walk-row element-copy-out-walk-row walk-row-requires same-length returns)
+    (tie.spec (λ c κs. search needs) (λ c. search needs) (λ c. search needs) walk-row-requires (λ c. search needs)
+    returns)

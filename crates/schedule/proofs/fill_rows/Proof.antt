@@ -26,9 +26,6 @@ Inv-loop h table₀ s n found₀ from₀ i₀ table found from i =
 abbrev μ-loop : tie.MeasureT-loop
 μ-loop h table₀ s n found₀ from₀ i₀ table found from i = n - i
 
-cast-n : tie.Need-cast-n Inv-loop μ-loop
-cast-n c = search needs
-
 loop-holds : tie.Need-loop-holds Inv-loop μ-loop
 unfolding sum rows greatest
 loop-holds c = (
@@ -41,12 +38,6 @@ loop-holds c = (
     filled = λ e. refl;
   },
 )
-
-mul-end : tie.Need-mul-end Inv-loop μ-loop
-mul-end c = search needs
-
-element-copy-out-end : tie.Need-element-copy-out-end Inv-loop μ-loop
-element-copy-out-end c = search needs
 
 div-end : tie.Need-div-end Inv-loop μ-loop
 div-end c = c .before .before .before .pre .0 .period-least (c .before .loop .i) (omega arith)
@@ -68,12 +59,6 @@ mul-fill-row c =
     let l = c .before .loop in
     omega (arith, l .inv .1, jobs-most (a .pre .0) (a .args .h) (l .i) (a .pre .1 .0) (l .inv .0), a .pre .0 .count-most)
 
-sub-fill-row : tie.Need-sub-fill-row Inv-loop μ-loop
-sub-fill-row c = search needs
-
-part-fill-row-start : tie.Need-part-fill-row-start Inv-loop μ-loop
-part-fill-row-start c = search needs
-
 part-fill-row-end : tie.Need-part-fill-row-end Inv-loop μ-loop
 part-fill-row-end c =
     let a = c .before .before .before in
@@ -94,12 +79,6 @@ noted-requires c κs =
     let l = c .before .before .before .before .before .loop in
     (a .pre .0, (omega arith, (l .inv .2 .told, c .before .before .fill-row .ensures .noted)))
 
-add-i : tie.Need-add-i Inv-loop μ-loop
-add-i c = search needs
-
-loop-less : tie.Need-loop-less Inv-loop μ-loop
-loop-less c = search needs
-
 loop-again : tie.Need-loop-again Inv-loop μ-loop
 loop-again c =
     let a = c .before .before .before .before .before .before .before .before in
@@ -111,9 +90,6 @@ loop-again c =
       omega (arith, l .inv .1, jobs-next (a .pre .0) (a .args .h) (l .i) (a .pre .1 .0) known),
       rw (add-one (l .i)) (row-more (tasksOf (a .args .t1)) (l .i) (l .from) _ (a .args .table .now) (l .table) _ room (r .kept .1 .1 .1 .0 ∙ part-length (l .from) _ (l .table) room) (l .inv .2) (r .ensures) (c .noted .ensures)),
     )
-
-same-length : tie.Need-same-length Inv-loop μ-loop
-same-length c = search needs
 
 returns : tie.Need-returns Inv-loop μ-loop
 returns c =
@@ -127,24 +103,6 @@ returns c =
 pub fill-rows-spec : {M : Type 1} → statement M
 fill-rows-spec =
     tie.close
-    (tie.spec
-    Inv-loop
-    μ-loop
-    cast-n
-    loop-holds
-    mul-end
-    element-copy-out-end
-    div-end
-    cast-end
-    add-end
-    mul-fill-row
-    sub-fill-row
-    part-fill-row-start
-    part-fill-row-end
-    fill-row-requires
-    noted-requires
-    add-i
-    loop-less
-    loop-again
-    same-length
-    returns)
+    (tie.spec Inv-loop μ-loop (λ c. search needs) loop-holds (λ c. search needs) (λ c. search needs) div-end cast-end
+    add-end mul-fill-row (λ c. search needs) (λ c. search needs) part-fill-row-end fill-row-requires noted-requires
+    (λ c. search needs) (λ c. search needs) loop-again (λ c. search needs) returns)

@@ -16,32 +16,8 @@ Inv-loop i periods₀ budgets₀ s n own size₀ j₀ periods budgets size j =
 abbrev μ-loop : tie.MeasureT-loop
 μ-loop i periods₀ budgets₀ s n own size₀ j₀ periods budgets size j = n - j
 
-cast-n : tie.Need-cast-n Inv-loop μ-loop
-cast-n c = search needs
-
-mul-own : tie.Need-mul-own Inv-loop μ-loop
-mul-own c = search needs
-
-element-copy-out-own : tie.Need-element-copy-out-own Inv-loop μ-loop
-element-copy-out-own c = search needs
-
 loop-holds : tie.Need-loop-holds Inv-loop μ-loop
 loop-holds c = gather-start (c .pre .0) (c .args .i) (c .pre .1 .0) (c .args .periods .now) (c .args .budgets .now) (c .pre .1 .1) (c .pre .1 .2)
-
-mul-t : tie.Need-mul-t Inv-loop μ-loop
-mul-t c = search needs
-
-element-copy-out-t : tie.Need-element-copy-out-t Inv-loop μ-loop
-element-copy-out-t c = search needs
-
-period-place-requires : tie.Need-period-place-requires Inv-loop μ-loop
-period-place-requires c κs = search needs
-
-mul-budgets : tie.Need-mul-budgets Inv-loop μ-loop
-mul-budgets c = search needs
-
-element-copy-out-budgets : tie.Need-element-copy-out-budgets Inv-loop μ-loop
-element-copy-out-budgets c = search needs
 
 add-budgets : tie.Need-add-budgets Inv-loop μ-loop
 add-budgets c =
@@ -49,30 +25,6 @@ add-budgets c =
     let l = c .before .before .before .before .before .before .before .before .before .loop in
     let known : l .j < a .args .t1 .count = omega arith in
     omega (arith, l .inv .budgets-most (c .before .before .before .period-place .result) (c .before .before .if2 .taken), place-allowed (a .pre .0) (l .j) known, a .pre .0 .count-most)
-
-element-write-budgets : tie.Need-element-write-budgets Inv-loop μ-loop
-element-write-budgets c = search needs
-
-mul-periods : tie.Need-mul-periods Inv-loop μ-loop
-mul-periods c = search needs
-
-element-write-periods : tie.Need-element-write-periods Inv-loop μ-loop
-element-write-periods c = search needs
-
-mul-budgets-2 : tie.Need-mul-budgets-2 Inv-loop μ-loop
-mul-budgets-2 c = search needs
-
-element-write-budgets-2 : tie.Need-element-write-budgets-2 Inv-loop μ-loop
-element-write-budgets-2 c = search needs
-
-add-size : tie.Need-add-size Inv-loop μ-loop
-add-size c = search needs
-
-add-j : tie.Need-add-j Inv-loop μ-loop
-add-j c = search needs
-
-loop-less : tie.Need-loop-less Inv-loop μ-loop
-loop-less c = search needs
 
 loop-again : tie.Need-loop-again Inv-loop μ-loop
 loop-again c =
@@ -100,26 +52,7 @@ returns c =
 pub gather-level-spec : {M : Type 1} → statement M
 gather-level-spec =
     tie.close
-    (tie.spec
-    Inv-loop
-    μ-loop
-    cast-n
-    mul-own
-    element-copy-out-own
-    loop-holds
-    mul-t
-    element-copy-out-t
-    period-place-requires
-    mul-budgets
-    element-copy-out-budgets
-    add-budgets
-    element-write-budgets
-    mul-periods
-    element-write-periods
-    mul-budgets-2
-    element-write-budgets-2
-    add-size
-    add-j
-    loop-less
-    loop-again
-    returns)
+    (tie.spec Inv-loop μ-loop (λ c. search needs) (λ c. search needs) (λ c. search needs) loop-holds (λ c. search needs)
+    (λ c. search needs) (λ c κs. search needs) (λ c. search needs) (λ c. search needs) add-budgets (λ c. search needs)
+    (λ c. search needs) (λ c. search needs) (λ c. search needs) (λ c. search needs) (λ c. search needs)
+    (λ c. search needs) (λ c. search needs) loop-again returns)

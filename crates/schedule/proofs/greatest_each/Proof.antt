@@ -39,15 +39,9 @@ Inv-loop h table s n each₀ from₀ i₀ each from i = (i ≤ n) × (n ≡ s .c
 abbrev μ-loop : tie.MeasureT-loop
 μ-loop h table s n each₀ from₀ i₀ each from i = n - i
 
-cast-n : tie.Need-cast-n Inv-loop μ-loop
-cast-n c = search needs
-
 loop-holds : tie.Need-loop-holds Inv-loop μ-loop
 unfolding sum listOf
 loop-holds c = (omega arith, refl, refl, refl)
-
-mul-end : tie.Need-mul-end Inv-loop μ-loop
-mul-end c = search needs
 
 element-copy-out-end : tie.Need-element-copy-out-end Inv-loop μ-loop
 element-copy-out-end c = omega (arith, c .before .loop .inv .1, c .before .before .before .pre .0 .count-most)
@@ -72,32 +66,17 @@ mul-greatest c =
     let l = c .before .loop in
     omega (arith, l .inv .2, jobs-most (a .pre .0) (a .args .h) (l .i) (a .pre .1 .0) (omega (arith, l .inv .0, l .inv .1)), a .pre .0 .count-most)
 
-sub-greatest : tie.Need-sub-greatest Inv-loop μ-loop
-sub-greatest c = search needs
-
-part-greatest-start : tie.Need-part-greatest-start Inv-loop μ-loop
-part-greatest-start c = search needs
-
 part-greatest-end : tie.Need-part-greatest-end Inv-loop μ-loop
 part-greatest-end c =
     let a = c .before .before .before in
     let l = c .before .loop in
     omega (arith, a .pre .1 .1 .enough, l .inv .2, jobs-within (a .pre .0) (a .args .h) (l .i) (a .pre .1 .0) (omega (arith, l .inv .1)))
 
-greatest-requires : tie.Need-greatest-requires Inv-loop μ-loop
-greatest-requires c κs = search needs
-
 mul-each : tie.Need-mul-each Inv-loop μ-loop
 mul-each c = omega (arith, c .before .before .before .loop .inv .1, c .before .before .before .before .before .pre .0 .count-most)
 
 array-write-each : tie.Need-array-write-each Inv-loop μ-loop
 array-write-each c = omega (arith, c .before .before .before .loop .inv .1, c .before .before .before .before .before .pre .0 .count-most)
-
-add-i : tie.Need-add-i Inv-loop μ-loop
-add-i c = search needs
-
-loop-less : tie.Need-loop-less Inv-loop μ-loop
-loop-less c = search needs
 
 loop-again : tie.Need-loop-again Inv-loop μ-loop
 loop-again c =
@@ -120,24 +99,6 @@ returns c =
 pub greatest-each-spec : {M : Type 1} → statement M
 greatest-each-spec =
     tie.close
-    (tie.spec
-    Inv-loop
-    μ-loop
-    cast-n
-    loop-holds
-    mul-end
-    element-copy-out-end
-    div-end
-    cast-end
-    add-end
-    mul-greatest
-    sub-greatest
-    part-greatest-start
-    part-greatest-end
-    greatest-requires
-    mul-each
-    array-write-each
-    add-i
-    loop-less
-    loop-again
-    returns)
+    (tie.spec Inv-loop μ-loop (λ c. search needs) loop-holds (λ c. search needs) element-copy-out-end div-end cast-end
+    add-end mul-greatest (λ c. search needs) (λ c. search needs) part-greatest-end (λ c κs. search needs) mul-each
+    array-write-each (λ c. search needs) (λ c. search needs) loop-again returns)

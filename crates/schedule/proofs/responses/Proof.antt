@@ -43,26 +43,11 @@ fits c = sym (c .before .before .sizes .ensures) ∙ ap toldSize (c .z .given .1
 sound : (c : tie.After-z) → Sound (start c .args .s)
 sound c = let s = start c .args .s in judged-sound s (sizes-given s (fits c) .judged-fine)
 
-sizes-requires : tie.Need-sizes-requires
-sizes-requires c κs = search needs
-
-enum-known-z : tie.Need-enum-known-z
-enum-known-z c = search needs
-
-enum-told : tie.Need-enum-told
-enum-told c = search needs
-
-sizes-refusal-requires : tie.Need-sizes-refusal-requires
-sizes-refusal-requires c κs = search needs
-
 returns : tie.Need-returns
 returns c =
     let no = c .before .enum-told .given .1 in
     answers-refused (refused (c .before) .args .s) (refused (c .before) .args .table .now) (c .sizes-refusal .result)
     (sizes-no (c .before .before .before .sizes .ensures) no (c .sizes-refusal .ensures))
-
-cast-jobs : tie.Need-cast-jobs
-cast-jobs c = search needs
 
 returns-2 : tie.Need-returns-2
 returns-2 c =
@@ -75,18 +60,9 @@ fill-rows-requires c κs =
     let x = sizes-given _ (fits z) in
     (sound z, (record { is-hyperperiod = x .hyperperiod-is; within-limit = omega (arith, x) }, omega (arith, x .jobs-are, c .before .if1 .left)))
 
-enum-known-found : tie.Need-enum-known-found
-enum-known-found c = search needs
-
-enum-told-2 : tie.Need-enum-told-2
-enum-told-2 c = search needs
-
 clear-requires : tie.Need-clear-requires
 clear-requires c κs =
     omega (arith, late (c .before) .fill-rows .ensures .same-length, judged (late (c .before)) .if1 .left)
-
-found-refusal-requires : tie.Need-found-refusal-requires
-found-refusal-requires c κs = search needs
 
 same-length : tie.Need-same-length
 same-length c = c .before .before .before .clear .kept .0 ∙ late (cleared c) .fill-rows .kept .1 .1 .0
@@ -115,20 +91,6 @@ returns-4 c =
 pub responses-spec : {M : Type 1} → statement M
 responses-spec =
     tie.close
-    (tie.spec
-    sizes-requires
-    enum-known-z
-    enum-told
-    sizes-refusal-requires
-    returns
-    cast-jobs
-    returns-2
-    fill-rows-requires
-    enum-known-found
-    enum-told-2
-    clear-requires
-    found-refusal-requires
-    same-length
-    returns-3
-    same-length-2
-    returns-4)
+    (tie.spec (λ c κs. search needs) (λ c. search needs) (λ c. search needs) (λ c κs. search needs) returns
+    (λ c. search needs) returns-2 fill-rows-requires (λ c. search needs) (λ c. search needs) clear-requires
+    (λ c κs. search needs) same-length returns-3 same-length-2 returns-4)

@@ -28,18 +28,6 @@ fine-then c e = sym (c .judge .ensures) ∙ ap told e
 sound : (c : tie.After-judge) → c .judge .result ≡ Fine → Sound (c .before .args .s)
 sound c e = judged-sound (c .before .args .s) (fine-then c e)
 
-judge-requires : tie.Need-judge-requires
-judge-requires c κs = search needs
-
-enum-told : tie.Need-enum-told
-enum-told c = search needs
-
-enum-told-2 : tie.Need-enum-told-2
-enum-told-2 c = search needs
-
-refusal-of-requires : tie.Need-refusal-of-requires
-refusal-of-requires c κs = search needs
-
 returns : tie.Need-returns
 returns c =
     let v = c .before .before .before .judge in
@@ -48,12 +36,6 @@ returns c =
 
 hyperperiod-requires : tie.Need-hyperperiod-requires
 hyperperiod-requires c κs = sound (c .before .before) (c .enum-told .given .1)
-
-enum-known-m : tie.Need-enum-known-m
-enum-known-m c = search needs
-
-enum-told-3 : tie.Need-enum-told-3
-enum-told-3 c = search needs
 
 returns-2 : tie.Need-returns-2
 returns-2 c =
@@ -81,16 +63,5 @@ returns-4 c =
 pub sizes-spec : {M : Type 1} → statement M
 sizes-spec =
     tie.close
-    (tie.spec
-    judge-requires
-    enum-told
-    enum-told-2
-    refusal-of-requires
-    returns
-    hyperperiod-requires
-    enum-known-m
-    enum-told-3
-    returns-2
-    job-count-requires
-    returns-3
-    returns-4)
+    (tie.spec (λ c κs. search needs) (λ c. search needs) (λ c. search needs) (λ c κs. search needs) returns
+    hyperperiod-requires (λ c. search needs) (λ c. search needs) returns-2 job-count-requires returns-3 returns-4)

@@ -29,15 +29,6 @@ greatest-none : (r : Refusal) (s : Sheet) → replicate 16 0 ≡ greatestAfter (
 unfolding listOf
 greatest-none r s = refl
 
-responses-requires : tie.Need-responses-requires
-responses-requires c κs = search needs
-
-enum-known-answer : tie.Need-enum-known-answer
-enum-known-answer c = search needs
-
-enum-told : tie.Need-enum-told
-enum-told c = search needs
-
 same-length : tie.Need-same-length
 same-length c = refused c .responses .kept .1 .0
 
@@ -75,12 +66,5 @@ returns-2 c =
 pub task-responses-spec : {M : Type 1} → statement M
 task-responses-spec =
     tie.close
-    (tie.spec
-    responses-requires
-    enum-known-answer
-    enum-told
-    same-length
-    returns
-    greatest-each-requires
-    same-length-2
-    returns-2)
+    (tie.spec (λ c κs. search needs) (λ c. search needs) (λ c. search needs) same-length returns greatest-each-requires
+    same-length-2 returns-2)

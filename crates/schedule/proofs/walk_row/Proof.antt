@@ -73,9 +73,6 @@ sub-row c =
     let l = round (c .before .before .before) .loop in
     omega (arith, some-work (a .pre .1) (l .inv .0) (gap (c .before .before .before)) (c .if3 .taken))
 
-mul-row : tie.Need-mul-row Inv-loop μ-loop
-mul-row c = search needs
-
 slice-write-row : tie.Need-slice-write-row Inv-loop μ-loop
 slice-write-row c =
     let a = first (c .before .before .before) in
@@ -132,23 +129,5 @@ returns-2 c = finished (c .before .before .before .pre .1) (c .before .loop .inv
 pub walk-row-spec : {M : Type 1} → statement M
 walk-row-spec =
     tie.close
-    (tie.spec
-    Inv-loop
-    μ-loop
-    loop-holds
-    turn-requires
-    add-if2
-    same-length
-    returns
-    sub-row
-    mul-row
-    slice-write-row
-    add-k
-    add-release
-    add-rests
-    loop-less
-    loop-again
-    loop-less-2
-    loop-again-2
-    same-length-2
-    returns-2)
+    (tie.spec Inv-loop μ-loop loop-holds turn-requires add-if2 same-length returns sub-row (λ c. search needs)
+    slice-write-row add-k add-release add-rests loop-less loop-again loop-less-2 loop-again-2 same-length-2 returns-2)

@@ -20,18 +20,9 @@ Inv-loop bytes at m chain₀ end begin₀ i₀ chain begin i = (i ≤ end) × (e
 abbrev μ-loop : tie.MeasureT-loop
 μ-loop bytes at m chain₀ end begin₀ i₀ chain begin i = end - i
 
-taken-requires : tie.Need-taken-requires Inv-loop μ-loop
-taken-requires c κs = search needs
-
 loop-holds : tie.Need-loop-holds Inv-loop μ-loop
 unfolding listOf
 loop-holds c = (omega arith, c .taken .ensures, omega arith, omega arith, refl)
-
-cast-k : tie.Need-cast-k Inv-loop μ-loop
-cast-k c = search needs
-
-number-requires : tie.Need-number-requires Inv-loop μ-loop
-number-requires c κs = search needs
 
 cast-chain : tie.Need-cast-chain Inv-loop μ-loop
 cast-chain c =
@@ -41,15 +32,6 @@ cast-chain c =
 
 array-write-chain : tie.Need-array-write-chain Inv-loop μ-loop
 array-write-chain c = omega (arith, c .before .before .loop .inv .1)
-
-add-begin : tie.Need-add-begin Inv-loop μ-loop
-add-begin c = search needs
-
-add-i : tie.Need-add-i Inv-loop μ-loop
-add-i c = search needs
-
-loop-less : tie.Need-loop-less Inv-loop μ-loop
-loop-less c = search needs
 
 loop-again : tie.Need-loop-again Inv-loop μ-loop
 loop-again c =
@@ -75,17 +57,5 @@ returns c =
 pub chain-at-spec : {M : Type 1} → statement M
 chain-at-spec =
     tie.close
-    (tie.spec
-    Inv-loop
-    μ-loop
-    taken-requires
-    loop-holds
-    cast-k
-    number-requires
-    cast-chain
-    array-write-chain
-    add-begin
-    add-i
-    loop-less
-    loop-again
-    returns)
+    (tie.spec Inv-loop μ-loop (λ c κs. search needs) loop-holds (λ c. search needs) (λ c κs. search needs) cast-chain
+    array-write-chain (λ c. search needs) (λ c. search needs) (λ c. search needs) loop-again returns)

@@ -16,17 +16,8 @@ Inv-loop number values i v j₀ j = (j ≤ i) × (among (nth values) i (nth valu
 abbrev μ-loop : tie.MeasureT-loop
 μ-loop number values i v j₀ j = j
 
-nth-of-requires : tie.Need-nth-of-requires Inv-loop μ-loop
-nth-of-requires c κs = search needs
-
 loop-holds : tie.Need-loop-holds Inv-loop μ-loop
 loop-holds c = let a = c .before .before .args in (omega arith, ap (among (nth (a .values .now)) (a .i)) (sym (c .nth-of .ensures)))
-
-sub-j : tie.Need-sub-j Inv-loop μ-loop
-sub-j c = search needs
-
-nth-of-requires-2 : tie.Need-nth-of-requires-2 Inv-loop μ-loop
-nth-of-requires-2 c κs = search needs
 
 returns : tie.Need-returns Inv-loop μ-loop
 returns c =
@@ -37,9 +28,6 @@ returns c =
     let l = turn .loop in
     let v = at-nth-of .nth-of .result in
     sym (ap (λ b. when b (a .number)) (l .inv .1 ∙ among-here (nth (a .values .now)) (l .j) v (omega arith) (sym (at-nth-of-2 .nth-of2 .ensures) ∙ omega arith)))
-
-loop-less : tie.Need-loop-less Inv-loop μ-loop
-loop-less c = search needs
 
 loop-again : tie.Need-loop-again Inv-loop μ-loop
 loop-again c =
@@ -60,14 +48,5 @@ returns-2 c =
 pub fresh-spec : {M : Type 1} → statement M
 fresh-spec =
     tie.close
-    (tie.spec
-    Inv-loop
-    μ-loop
-    nth-of-requires
-    loop-holds
-    sub-j
-    nth-of-requires-2
-    returns
-    loop-less
-    loop-again
-    returns-2)
+    (tie.spec Inv-loop μ-loop (λ c κs. search needs) loop-holds (λ c. search needs) (λ c κs. search needs) returns
+    (λ c. search needs) loop-again returns-2)

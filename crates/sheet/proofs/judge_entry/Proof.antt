@@ -9,12 +9,6 @@ use borrow.Author.Needs.{needs}
 use Rattle.sheet.proofs.judge_entry.Statement.{statement}
 use Rattle.sheet.proofs.judge_entry.Tie as tie
 
-slice-aggregate-nth-of : tie.Need-slice-aggregate-nth-of
-slice-aggregate-nth-of c = search needs
-
-nth-of-requires : tie.Need-nth-of-requires
-nth-of-requires c κs = search needs
-
 returns : tie.Need-returns
 returns c =
     let at-nth-of = c .before .before in
@@ -22,12 +16,6 @@ returns c =
     let e = nth (a .s .chain) in
     let repeats = when (among e (a .i) (e (a .i))) 8 in
     sym (ap (λ b. also (when b 7) repeats) (le-leb (a .s .count) (e (a .i)) (omega (arith, at-nth-of .nth-of .ensures))))
-
-slice-aggregate-fresh : tie.Need-slice-aggregate-fresh
-slice-aggregate-fresh c = search needs
-
-fresh-requires : tie.Need-fresh-requires
-fresh-requires c κs = search needs
 
 returns-2 : tie.Need-returns-2
 returns-2 c =
@@ -40,10 +28,4 @@ returns-2 c =
 pub judge-entry-spec : {M : Type 1} → statement M
 judge-entry-spec =
     tie.close
-    (tie.spec
-    slice-aggregate-nth-of
-    nth-of-requires
-    returns
-    slice-aggregate-fresh
-    fresh-requires
-    returns-2)
+    (tie.spec (λ c. search needs) (λ c κs. search needs) returns (λ c. search needs) (λ c κs. search needs) returns-2)

@@ -6,63 +6,6 @@ use borrow.Author.Needs.{needs}
 use Rattle.sheet.proofs.judge_field.Statement.{statement}
 use Rattle.sheet.proofs.judge_field.Tie as tie
 
-enum-told : tie.Need-enum-told
-enum-told c = search needs
-
-wide-requires : tie.Need-wide-requires
-wide-requires c κs = search needs
-
-ranged-requires : tie.Need-ranged-requires
-ranged-requires c κs = search needs
-
-enum-known-f : tie.Need-enum-known-f
-enum-known-f c = search needs
-
-task-of-requires : tie.Need-task-of-requires
-task-of-requires c κs = search needs
-
-ranged-requires-2 : tie.Need-ranged-requires-2
-ranged-requires-2 c κs = search needs
-
-enum-known-f-2 : tie.Need-enum-known-f-2
-enum-known-f-2 c = search needs
-
-task-of-requires-2 : tie.Need-task-of-requires-2
-task-of-requires-2 c κs = search needs
-
-ranged-requires-3 : tie.Need-ranged-requires-3
-ranged-requires-3 c κs = search needs
-
-enum-known-f-3 : tie.Need-enum-known-f-3
-enum-known-f-3 c = search needs
-
-ranks-of-requires : tie.Need-ranks-of-requires
-ranks-of-requires c κs = search needs
-
-slice-aggregate-fresh : tie.Need-slice-aggregate-fresh
-slice-aggregate-fresh c = search needs
-
-fresh-requires : tie.Need-fresh-requires
-fresh-requires c κs = search needs
-
-enum-told-2 : tie.Need-enum-told-2
-enum-told-2 c = search needs
-
-wide-requires-2 : tie.Need-wide-requires-2
-wide-requires-2 c κs = search needs
-
-wide-requires-3 : tie.Need-wide-requires-3
-wide-requires-3 c κs = search needs
-
-ranged-requires-4 : tie.Need-ranged-requires-4
-ranged-requires-4 c κs = search needs
-
-enum-known-f-4 : tie.Need-enum-known-f-4
-enum-known-f-4 c = search needs
-
-judge-entry-requires : tie.Need-judge-entry-requires
-judge-entry-requires c κs = search needs
-
 returns : tie.Need-returns
 returns c =
     let a = c .before .before .before .before .args in
@@ -114,29 +57,8 @@ returns-6 c = c .judge-entry .ensures ∙ sym (ap (judged (value (c .before .bef
 pub judge-field-spec : {M : Type 1} → statement M
 judge-field-spec =
     tie.close
-    (tie.spec
-    enum-told
-    wide-requires
-    ranged-requires
-    enum-known-f
-    task-of-requires
-    ranged-requires-2
-    enum-known-f-2
-    task-of-requires-2
-    ranged-requires-3
-    enum-known-f-3
-    ranks-of-requires
-    slice-aggregate-fresh
-    fresh-requires
-    enum-told-2
-    wide-requires-2
-    wide-requires-3
-    ranged-requires-4
-    enum-known-f-4
-    judge-entry-requires
-    returns
-    returns-2
-    returns-3
-    returns-4
-    returns-5
-    returns-6)
+    (tie.spec (λ c. search needs) (λ c κs. search needs) (λ c κs. search needs) (λ c. search needs)
+    (λ c κs. search needs) (λ c κs. search needs) (λ c. search needs) (λ c κs. search needs) (λ c κs. search needs)
+    (λ c. search needs) (λ c κs. search needs) (λ c. search needs) (λ c κs. search needs) (λ c. search needs)
+    (λ c κs. search needs) (λ c κs. search needs) (λ c κs. search needs) (λ c. search needs) (λ c κs. search needs)
+    returns returns-2 returns-3 returns-4 returns-5 returns-6)

@@ -22,17 +22,11 @@ Inv-loop s len n f₀ at₀ left₀ f at left = (n ≡ s .count) × (index f + l
 abbrev μ-loop : tie.MeasureT-loop
 μ-loop s len n f₀ at₀ left₀ f at left = left
 
-short-requires : tie.Need-short-requires Inv-loop μ-loop
-short-requires c κs = search needs
-
 mul-left : tie.Need-mul-left Inv-loop μ-loop
 mul-left c = omega (arith, c .short .ensures)
 
 add-left : tie.Need-add-left Inv-loop μ-loop
 add-left c = omega (arith, c .short .ensures)
-
-short-requires-2 : tie.Need-short-requires-2 Inv-loop μ-loop
-short-requires-2 c κs = search needs
 
 add-left-2 : tie.Need-add-left-2 Inv-loop μ-loop
 add-left-2 c = omega (arith, c .before .short .ensures, c .short2 .ensures)
@@ -51,17 +45,11 @@ loop-holds c =
       ap (first judge) all,
     )
 
-width-of-requires : tie.Need-width-of-requires Inv-loop μ-loop
-width-of-requires c κs = search needs
-
 add-end : tie.Need-add-end Inv-loop μ-loop
 add-end c = omega (arith, c .width-of .ensures, width-small (c .before .before .loop .f))
 
 add-if1 : tie.Need-add-if1 Inv-loop μ-loop
 add-if1 c = omega (arith, c .width-of .ensures, width-small (c .before .before .loop .f))
-
-cast-if1 : tie.Need-cast-if1 Inv-loop μ-loop
-cast-if1 c = search needs
 
 returns : tie.Need-returns Inv-loop μ-loop
 returns c =
@@ -76,15 +64,6 @@ returns c =
     let left = first (judgedIn room (a .s)) (onward n (next n (l .f)) (l .left - 1)) in
     sym (l .inv .4 ∙ first-step (judgedIn room (a .s)) n (l .left) (l .f) (omega arith)
     ∙ ap (λ j. also j left) (judged-short room (a .s) (l .f) (omega (arith, end .0, at-width-of .width-of .ensures))))
-
-judge-field-requires : tie.Need-judge-field-requires Inv-loop μ-loop
-judge-field-requires c κs = search needs
-
-enum-told : tie.Need-enum-told Inv-loop μ-loop
-enum-told c = search needs
-
-enum-told-2 : tie.Need-enum-told-2 Inv-loop μ-loop
-enum-told-2 c = search needs
 
 returns-2 : tie.Need-returns-2 Inv-loop μ-loop
 returns-2 c =
@@ -107,12 +86,6 @@ returns-2 c =
 
 next-of-requires : tie.Need-next-of-requires Inv-loop μ-loop
 next-of-requires c κs = omega arith
-
-sub-left : tie.Need-sub-left Inv-loop μ-loop
-sub-left c = search needs
-
-loop-less : tie.Need-loop-less Inv-loop μ-loop
-loop-less c = search needs
 
 loop-again : tie.Need-loop-again Inv-loop μ-loop
 loop-again c =
@@ -151,26 +124,6 @@ returns-3 c =
 pub judge-fields-spec : {M : Type 1} → statement M
 judge-fields-spec =
     tie.close
-    (tie.spec
-    Inv-loop
-    μ-loop
-    short-requires
-    mul-left
-    add-left
-    short-requires-2
-    add-left-2
-    loop-holds
-    width-of-requires
-    add-end
-    add-if1
-    cast-if1
-    returns
-    judge-field-requires
-    enum-told
-    enum-told-2
-    returns-2
-    next-of-requires
-    sub-left
-    loop-less
-    loop-again
-    returns-3)
+    (tie.spec Inv-loop μ-loop (λ c κs. search needs) mul-left add-left (λ c κs. search needs) add-left-2 loop-holds
+    (λ c κs. search needs) add-end add-if1 (λ c. search needs) returns (λ c κs. search needs) (λ c. search needs)
+    (λ c. search needs) returns-2 next-of-requires (λ c. search needs) (λ c. search needs) loop-again returns-3)

@@ -28,17 +28,11 @@ Inv-loop out₀ s n f₀ at₀ left₀ out f at left = (n ≡ s .count) × (inde
 abbrev μ-loop : tie.MeasureT-loop
 μ-loop out₀ s n f₀ at₀ left₀ out f at left = left
 
-short-requires : tie.Need-short-requires Inv-loop μ-loop
-short-requires c κs = search needs
-
 mul-left : tie.Need-mul-left Inv-loop μ-loop
 mul-left c = omega (arith, c .short .ensures)
 
 add-left : tie.Need-add-left Inv-loop μ-loop
 add-left c = omega (arith, c .short .ensures)
-
-short-requires-2 : tie.Need-short-requires-2 Inv-loop μ-loop
-short-requires-2 c κs = search needs
 
 add-left-2 : tie.Need-add-left-2 Inv-loop μ-loop
 add-left-2 c = omega (arith, c .before .short .ensures, c .short2 .ensures)
@@ -55,15 +49,6 @@ loop-holds c =
       ap (λ l. sets (unpack (a .out .now)) 0 (bitsOf (value (a .s)) l)) (sym (fields-onward (n .result) (m .result)) ∙ ap₂ fields (n .ensures .0) (m .ensures .0)),
     )
 
-width-of-requires : tie.Need-width-of-requires Inv-loop μ-loop
-width-of-requires c κs = search needs
-
-value-of-requires : tie.Need-value-of-requires Inv-loop μ-loop
-value-of-requires c κs = search needs
-
-put-requires : tie.Need-put-requires Inv-loop μ-loop
-put-requires c κs = search needs
-
 add-at : tie.Need-add-at Inv-loop μ-loop
 add-at c =
     let put = c .before .before .before in
@@ -72,12 +57,6 @@ add-at c =
 
 next-of-requires : tie.Need-next-of-requires Inv-loop μ-loop
 next-of-requires c κs = omega arith
-
-sub-left : tie.Need-sub-left Inv-loop μ-loop
-sub-left c = search needs
-
-loop-less : tie.Need-loop-less Inv-loop μ-loop
-loop-less c = search needs
 
 loop-again : tie.Need-loop-again Inv-loop μ-loop
 loop-again c =
@@ -122,22 +101,6 @@ returns c =
 pub put-fields-spec : {M : Type 1} → statement M
 put-fields-spec =
     tie.close
-    (tie.spec
-    Inv-loop
-    μ-loop
-    short-requires
-    mul-left
-    add-left
-    short-requires-2
-    add-left-2
-    loop-holds
-    width-of-requires
-    value-of-requires
-    put-requires
-    add-at
-    next-of-requires
-    sub-left
-    loop-less
-    loop-again
-    same-length
-    returns)
+    (tie.spec Inv-loop μ-loop (λ c κs. search needs) mul-left add-left (λ c κs. search needs) add-left-2 loop-holds
+    (λ c κs. search needs) (λ c κs. search needs) (λ c κs. search needs) add-at next-of-requires (λ c. search needs)
+    (λ c. search needs) loop-again same-length returns)

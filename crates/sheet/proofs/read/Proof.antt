@@ -24,21 +24,6 @@ no bytes s v r x q h p w =
     let e : readOf bytes ≡ refusal r = ap (readAs bytes) (sym q) ∙ h in
     (also-no (given (x .sheet)) refl (w .0 ∙ p) ∙ sym e, w .1 ∙ sym (ap sheetIn e))
 
-spell-requires : tie.Need-spell-requires
-spell-requires c κs = search needs
-
-judge-fields-requires : tie.Need-judge-fields-requires
-judge-fields-requires c κs = search needs
-
-enum-told : tie.Need-enum-told
-enum-told c = search needs
-
-enum-told-2 : tie.Need-enum-told-2
-enum-told-2 c = search needs
-
-refused-requires : tie.Need-refused-requires
-refused-requires c κs = search needs
-
 returns : tie.Need-returns
 returns c =
     let at-enum-told-2 = c .before in
@@ -49,21 +34,6 @@ returns c =
     let p = at-enum-told-2 .enum-told2 .given .1 in
     no bytes (s .result) _ _ (c .refused .result) (s .ensures)
     (also-no (also (tailOf bytes (endOf (s .result))) (given (s .result))) (at-judge-fields .judge-fields .ensures) p) p (c .refused .ensures)
-
-end-of-requires : tie.Need-end-of-requires
-end-of-requires c κs = search needs
-
-judge-tail-requires : tie.Need-judge-tail-requires
-judge-tail-requires c κs = search needs
-
-enum-told-3 : tie.Need-enum-told-3
-enum-told-3 c = search needs
-
-enum-told-4 : tie.Need-enum-told-4
-enum-told-4 c = search needs
-
-refused-requires-2 : tie.Need-refused-requires-2
-refused-requires-2 c κs = search needs
 
 returns-2 : tie.Need-returns-2
 returns-2 c =
@@ -101,17 +71,6 @@ returns-3 c =
 pub read-spec : {M : Type 1} → statement M
 read-spec =
     tie.close
-    (tie.spec
-    spell-requires
-    judge-fields-requires
-    enum-told
-    enum-told-2
-    refused-requires
-    returns
-    end-of-requires
-    judge-tail-requires
-    enum-told-3
-    enum-told-4
-    refused-requires-2
-    returns-2
-    returns-3)
+    (tie.spec (λ c κs. search needs) (λ c κs. search needs) (λ c. search needs) (λ c. search needs)
+    (λ c κs. search needs) returns (λ c κs. search needs) (λ c κs. search needs) (λ c. search needs) (λ c. search needs)
+    (λ c κs. search needs) returns-2 returns-3)

@@ -15,44 +15,14 @@ use borrow.Author.Needs.{needs}
 use Rattle.sheet.proofs.spell.Statement.{statement}
 use Rattle.sheet.proofs.spell.Tie as tie
 
-number-requires : tie.Need-number-requires
-number-requires c κs = search needs
-
 cast-n : tie.Need-cast-n
 cast-n c = omega (arith, c .number .ensures, number-lt (unpack (c .before .before .args .bytes .now)) 0 5)
-
-short-requires : tie.Need-short-requires
-short-requires c κs = search needs
-
-tasks-at-requires : tie.Need-tasks-at-requires
-tasks-at-requires c κs = search needs
-
-wide-requires : tie.Need-wide-requires
-wide-requires c κs = search needs
-
-mul-at : tie.Need-mul-at
-mul-at c = search needs
-
-add-at : tie.Need-add-at
-add-at c = search needs
-
-number-requires-2 : tie.Need-number-requires-2
-number-requires-2 c κs = search needs
 
 cast-m : tie.Need-cast-m
 cast-m c =
     let counted = c .before .before .before .before in
     let bs = unpack (counted .before .before .args .bytes .now) in
     omega (arith, c .number2 .ensures, number-lt bs (begin (c .before .wide .result)) 5)
-
-add-chain-at : tie.Need-add-chain-at
-add-chain-at c = search needs
-
-short-requires-2 : tie.Need-short-requires-2
-short-requires-2 c κs = search needs
-
-chain-at-requires : tie.Need-chain-at-requires
-chain-at-requires c κs = search needs
 
 returns : tie.Need-returns
 returns c =
@@ -74,17 +44,6 @@ returns c =
 pub spell-spec : {M : Type 1} → statement M
 spell-spec =
     tie.close
-    (tie.spec
-    number-requires
-    cast-n
-    short-requires
-    tasks-at-requires
-    wide-requires
-    mul-at
-    add-at
-    number-requires-2
-    cast-m
-    add-chain-at
-    short-requires-2
-    chain-at-requires
-    returns)
+    (tie.spec (λ c κs. search needs) cast-n (λ c κs. search needs) (λ c κs. search needs) (λ c κs. search needs)
+    (λ c. search needs) (λ c. search needs) (λ c κs. search needs) cast-m (λ c. search needs) (λ c κs. search needs)
+    (λ c κs. search needs) returns)

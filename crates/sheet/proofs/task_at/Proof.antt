@@ -8,24 +8,6 @@ use borrow.Author.Needs.{needs}
 use Rattle.sheet.proofs.task_at.Statement.{statement}
 use Rattle.sheet.proofs.task_at.Tie as tie
 
-number-requires : tie.Need-number-requires
-number-requires c κs = search needs
-
-add-number : tie.Need-add-number
-add-number c = search needs
-
-number-requires-2 : tie.Need-number-requires-2
-number-requires-2 c κs = search needs
-
-add-number-2 : tie.Need-add-number-2
-add-number-2 c = search needs
-
-add-number-3 : tie.Need-add-number-3
-add-number-3 c = search needs
-
-number-requires-3 : tie.Need-number-requires-3
-number-requires-3 c κs = search needs
-
 cast-rank : tie.Need-cast-rank
 cast-rank c =
     let a = c .before .before .before .before .args in
@@ -41,12 +23,5 @@ returns c =
 pub task-at-spec : {M : Type 1} → statement M
 task-at-spec =
     tie.close
-    (tie.spec
-    number-requires
-    add-number
-    number-requires-2
-    add-number-2
-    add-number-3
-    number-requires-3
-    cast-rank
-    returns)
+    (tie.spec (λ c κs. search needs) (λ c. search needs) (λ c κs. search needs) (λ c. search needs) (λ c. search needs)
+    (λ c κs. search needs) cast-rank returns)

@@ -19,15 +19,9 @@ Inv-loop bytes at n tasks₀ end begin₀ i₀ tasks begin i = (i ≤ end) × (e
 abbrev μ-loop : tie.MeasureT-loop
 μ-loop bytes at n tasks₀ end begin₀ i₀ tasks begin i = end - i
 
-taken-requires : tie.Need-taken-requires Inv-loop μ-loop
-taken-requires c κs = search needs
-
 loop-holds : tie.Need-loop-holds Inv-loop μ-loop
 unfolding listOf
 loop-holds c = (omega arith, c .taken .ensures, omega arith, omega arith, refl)
-
-cast-k : tie.Need-cast-k Inv-loop μ-loop
-cast-k c = search needs
 
 task-at-requires : tie.Need-task-at-requires Inv-loop μ-loop
 task-at-requires c κs = omega (arith, c .before .loop .inv)
@@ -37,15 +31,6 @@ mul-tasks c = omega arith
 
 array-set-from-tasks : tie.Need-array-set-from-tasks Inv-loop μ-loop
 array-set-from-tasks c = omega (arith, c .before .before .loop .inv .1)
-
-add-begin : tie.Need-add-begin Inv-loop μ-loop
-add-begin c = search needs
-
-add-i : tie.Need-add-i Inv-loop μ-loop
-add-i c = search needs
-
-loop-less : tie.Need-loop-less Inv-loop μ-loop
-loop-less c = search needs
 
 loop-again : tie.Need-loop-again Inv-loop μ-loop
 loop-again c =
@@ -71,17 +56,5 @@ returns c =
 pub tasks-at-spec : {M : Type 1} → statement M
 tasks-at-spec =
     tie.close
-    (tie.spec
-    Inv-loop
-    μ-loop
-    taken-requires
-    loop-holds
-    cast-k
-    task-at-requires
-    mul-tasks
-    array-set-from-tasks
-    add-begin
-    add-i
-    loop-less
-    loop-again
-    returns)
+    (tie.spec Inv-loop μ-loop (λ c κs. search needs) loop-holds (λ c. search needs) task-at-requires mul-tasks
+    array-set-from-tasks (λ c. search needs) (λ c. search needs) (λ c. search needs) loop-again returns)

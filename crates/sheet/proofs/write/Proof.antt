@@ -25,18 +25,6 @@ use Rattle.sheet.proofs.write.Tie as tie
 abbrev afterwards : Sheet → ℕ → Answer ℕ
 afterwards s room = also (when (ltb room (sizeOf s)) 14) (given (sizeOf s))
 
-judge-requires : tie.Need-judge-requires
-judge-requires c κs = search needs
-
-enum-told : tie.Need-enum-told
-enum-told c = search needs
-
-enum-told-2 : tie.Need-enum-told-2
-enum-told-2 c = search needs
-
-refusal-of-requires : tie.Need-refusal-of-requires
-refusal-of-requires c κs = search needs
-
 returns : tie.Need-returns
 unfolding writeOf
 returns c =
@@ -46,15 +34,6 @@ returns c =
     let p = at-enum-told-2 .enum-told2 .given .1 in
     let e = ap refusal (refusal-is (c .refusal-of .ensures) p) in
     (e ∙ sym (also-no (afterwards (a .s) (length (a .out .now))) (at-judge .judge .ensures) p), refl)
-
-end-of-requires : tie.Need-end-of-requires
-end-of-requires c κs = search needs
-
-add-size : tie.Need-add-size
-add-size c = search needs
-
-cast-if1 : tie.Need-cast-if1
-cast-if1 c = search needs
 
 returns-2 : tie.Need-returns-2
 unfolding writeOf
@@ -68,24 +47,6 @@ returns-2 c =
           ∙ ap (λ b. also (when b 14) (given (sizeOf (a .s)))) (lt-ltb room (sizeOf (a .s)) (omega (arith, at-end-of .end-of .ensures .0)))),
       refl,
     )
-
-put-fields-requires : tie.Need-put-fields-requires
-put-fields-requires c κs = search needs
-
-mul-put : tie.Need-mul-put
-mul-put c = search needs
-
-sub-put : tie.Need-sub-put
-sub-put c = search needs
-
-put-requires : tie.Need-put-requires
-put-requires c κs = search needs
-
-cast-t8 : tie.Need-cast-t8
-cast-t8 c = search needs
-
-same-length : tie.Need-same-length
-same-length c = search needs
 
 returns-3 : tie.Need-returns-3
 unfolding writeOf
@@ -122,20 +83,6 @@ returns-3 c =
 pub write-spec : {M : Type 1} → statement M
 write-spec =
     tie.close
-    (tie.spec
-    judge-requires
-    enum-told
-    enum-told-2
-    refusal-of-requires
-    returns
-    end-of-requires
-    add-size
-    cast-if1
-    returns-2
-    put-fields-requires
-    mul-put
-    sub-put
-    put-requires
-    cast-t8
-    same-length
-    returns-3)
+    (tie.spec (λ c κs. search needs) (λ c. search needs) (λ c. search needs) (λ c κs. search needs) returns
+    (λ c κs. search needs) (λ c. search needs) (λ c. search needs) returns-2 (λ c κs. search needs) (λ c. search needs)
+    (λ c. search needs) (λ c κs. search needs) (λ c. search needs) (λ c. search needs) returns-3)

@@ -11,6 +11,7 @@ pub mod random;
 pub mod report;
 pub mod schedule;
 pub mod sheet;
+pub mod vectors;
 
 /// A number of document 01's table; 15 comes with a task.
 #[derive(Clone, Copy, PartialEq, Eq, Debug)]

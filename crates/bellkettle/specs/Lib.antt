@@ -1,8 +1,11 @@
--- The reader's part: what a call returns and leaves in lent memory.
-pub mod Answer
--- What the functions under the calls answer each other, and laws of it.
-pub mod Steps
-pub mod Endings
+-- The reader's part: answers as numbers, sheets and their fields, and what the calls promise.
+pub mod Numbers
+pub mod Fields
+pub mod Promises
+-- What the functions under the calls tell each other, and the laws.
+pub mod Replies
+pub mod ReplyLaws
+pub mod FieldLaws
 -- The results: 0 exactly when the answer is given, and one returned number and one content of lent memory for each input.
 pub mod Results
 pub mod Unique

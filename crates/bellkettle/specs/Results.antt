@@ -4,14 +4,18 @@ use mathlib.Core.List.{List}
 use Prim.Native.Nat.{ℕ}
 use native.Mathlib.Omega.{arith}
 use lib.IntN.{ℤ}
+use Rattle.answers.specs.Answers.{Answer, given, refused, after}
+use Rattle.answers.specs.NumberLaws.{Numbered, given-numbered, numbered-wider, after-numbered}
 use Rattle.sheet.specs.declared.Sheet.{Sheet}
-use Rattle.sheet.specs.Answers.{Answer, given, refused}
-use Rattle.sheet.specs.NumberLaws.{Numbered, given-numbered, numbered-wider, after-numbered, read-numbered, write-numbered}
-use Rattle.schedule.specs.Answer.{responsesOf}
-use Rattle.schedule.specs.Cases.{responses-numbered}
-use Rattle.chain.specs.Answer.{defaultLimit, delayOf, worstOf, boundOf, marginOf, defaultMarginOf, figuresOf}
-use Rattle.chain.specs.Cases.{delay-numbered, worst-numbered, bound-numbered, margin-numbered, figures-numbered}
-use Rattle.bellkettle.specs.Answer.{numberOf, alone, signed, totalsNumbers, figureNumbers, summaryNumbers, answered, countsOf, written}
+use Rattle.sheet.specs.Calls.{readOf}
+use Rattle.sheet.specs.NumberLaws.{read-numbered, write-numbered}
+use Rattle.schedule.specs.NumberLaws.{responses-numbered}
+use Rattle.chain.specs.Calls.{defaultLimit}
+use Rattle.chain.specs.NumberLaws.{delay-numbered, worst-numbered, bound-numbered, margin-numbered, figures-numbered}
+use Rattle.bellkettle.specs.declared.Question.{Question}
+use Rattle.bellkettle.specs.declared.Question.the-variants.{Responses, Delay, Worst, Bound, Margin, DefaultMargin, Figures}
+use Rattle.bellkettle.specs.Numbers.{numberOf, inNumbers, alone, signed, totalsNumbers, figureNumbers, summaryNumbers, countNumbers, answerTo}
+use Rattle.bellkettle.specs.Promises.{countsIn, sizeFor}
 
 -- The number is 0 exactly when the answer is given.
 pub record ZeroWhenGiven (answer : Answer (List ℤ)) : Type 0 where
@@ -25,36 +29,27 @@ numbered-given {answer = refused number values} n e = absurd (omega (arith, n .l
 numbered-zero : {answer : Answer (List ℤ)} → Numbered 1 15 answer → ZeroWhenGiven answer
 numbered-zero n = record { zero-given = numbered-given n; given-zero = λ values e. ap numberOf e }
 
-module _ (bytes : List ℕ) where
-  answered-zero : {A : Type 0} {call : Sheet → Answer A} (numbers : A → List ℤ) → ((s : Sheet) → Numbered 2 15 (call s)) → ZeroWhenGiven (answered bytes call numbers)
-  answered-zero numbers n =
-      numbered-zero
-      (after-numbered (numbered-wider (read-numbered bytes) (omega arith) (omega arith))
-      (λ s. after-numbered (numbered-wider (n s) (omega arith) (omega arith)) (λ a. given-numbered (numbers a))))
+-- An answer keeps its refusals when it is told in numbers.
+told-numbered : {A : Type 0} {answer : Answer A} {low high : ℕ} (numbers : A → List ℤ) → Numbered low high answer → Numbered low high (inNumbers numbers answer)
+told-numbered numbers n = after-numbered n (λ a. given-numbered (numbers a))
 
-  pub responses-zero : (room : ℕ) → ZeroWhenGiven (answered bytes (λ s. responsesOf s room) totalsNumbers)
-  responses-zero room = answered-zero totalsNumbers (λ s. responses-numbered s room)
+answer-numbered : (question : Question) (room : ℕ) (s : Sheet) → Numbered 2 15 (answerTo question room s)
+answer-numbered Responses room s = told-numbered totalsNumbers (responses-numbered s room)
+answer-numbered (Delay release) room s = told-numbered alone (delay-numbered s room release)
+answer-numbered Worst room s = told-numbered figureNumbers (worst-numbered s room)
+answer-numbered Bound room s = told-numbered alone (bound-numbered s room)
+answer-numbered (Margin limit) room s = told-numbered signed (margin-numbered s room limit)
+answer-numbered DefaultMargin room s = told-numbered signed (margin-numbered s room defaultLimit)
+answer-numbered Figures room s = told-numbered summaryNumbers (figures-numbered s room)
 
-  pub delay-zero : (release room : ℕ) → ZeroWhenGiven (answered bytes (λ s. delayOf s release room) alone)
-  delay-zero release room = answered-zero alone (λ s. delay-numbered s room release)
+pub asked-zero : (question : Question) (bytes : List ℕ) (room : ℕ) → ZeroWhenGiven (after (readOf bytes) (answerTo question room))
+asked-zero question bytes room =
+    numbered-zero
+    (after-numbered (numbered-wider (read-numbered bytes) (omega arith) (omega arith))
+    (λ s. numbered-wider (answer-numbered question room s) (omega arith) (omega arith)))
 
-  pub worst-zero : (room : ℕ) → ZeroWhenGiven (answered bytes (λ s. worstOf s room) figureNumbers)
-  worst-zero room = answered-zero figureNumbers (λ s. worst-numbered s room)
+pub read-zero : (bytes : List ℕ) → ZeroWhenGiven (countsIn bytes)
+read-zero bytes = numbered-zero (told-numbered countNumbers (numbered-wider (read-numbered bytes) (omega arith) (omega arith)))
 
-  pub bound-zero : (room : ℕ) → ZeroWhenGiven (answered bytes (λ s. boundOf s room) alone)
-  bound-zero room = answered-zero alone (λ s. bound-numbered s room)
-
-  pub margin-zero : (limit room : ℕ) → ZeroWhenGiven (answered bytes (λ s. marginOf s limit room) signed)
-  margin-zero limit room = answered-zero signed (λ s. margin-numbered s room limit)
-
-  pub default-margin-zero : (room : ℕ) → ZeroWhenGiven (answered bytes (λ s. defaultMarginOf s room) signed)
-  default-margin-zero room = margin-zero defaultLimit room
-
-  pub figures-zero : (room : ℕ) → ZeroWhenGiven (answered bytes (λ s. figuresOf s room) summaryNumbers)
-  figures-zero room = answered-zero summaryNumbers (λ s. figures-numbered s room)
-
-  pub read-zero : ZeroWhenGiven (answered bytes given countsOf)
-  read-zero = answered-zero countsOf given-numbered
-
-pub write-zero : (s : Sheet) (room : ℕ) → ZeroWhenGiven (written s room)
-write-zero s room = numbered-zero (after-numbered (numbered-wider (write-numbered s room) (omega arith) (omega arith)) (λ size. given-numbered (alone size)))
+pub write-zero : (s : Sheet) (room : ℕ) → ZeroWhenGiven (sizeFor s room)
+write-zero s room = numbered-zero (told-numbered alone (numbered-wider (write-numbered s room) (omega arith) (omega arith)))

@@ -1,210 +1,281 @@
 // The library for programs in C: document 01's calls over the bytes of a sheet. Each returns the number of the refusal, or 0; what
 // else it answers goes to lent slices. No sheet, answer or struct crosses over, so nothing has to be trusted but pointers and
-// lengths. What is returned and left is defined in specs/Answer.antt; include/bellkettle.h says it to those who call.
+// lengths. What is returned and left is defined in specs/Promises.antt; include/bellkettle.h says it to those who call.
+use answers::Refusal;
+use answers::Verdict;
 use chain::Bound;
 use chain::Delay;
+use chain::Figure;
 use chain::Figures;
 use chain::Margin;
 use chain::Summary;
 use chain::Worst;
 use schedule::Responses;
-use sheet::Refusal;
+use schedule::Totals;
 use sheet::Sheet;
-use sheet::Verdict;
 use sheet::Written;
 use theory::Task;
 ghost use mathlib.Core.Path.{_≡_};
-ghost use Prim.Native.Nat.{_≤_, min};
+ghost use Prim.Native.Nat.{_≤_};
 ghost use lib.IntN.{pos};
 ghost use lib.ListN.{length, getD, set};
 ghost use lib.Seq.{sets};
-ghost use Rattle.theory.specs.Model.{none};
-ghost use Rattle.sheet.specs.Answers.{given};
-ghost use Rattle.sheet.specs.Calls.{places};
-ghost use Rattle.sheet.specs.Told.{refusal};
-ghost use Rattle.schedule.specs.Answer.{responsesOf};
-ghost use Rattle.chain.specs.Answer.{delayOf, worstOf, boundOf, marginOf, defaultMarginOf, figuresOf};
-ghost use Rattle.bellkettle.specs.Answer.{numberOf, valuesAfter, Returned, alone, signed, totalsNumbers, figureNumbers, summaryNumbers, answered, Ended, countsOf, periodsIn, budgetsIn, ranksIn, entriesIn, sixteen, fieldsAfter, counted, tasksCounted, taskFrom, sheetFrom, WriteEnded};
-ghost use Rattle.bellkettle.specs.Steps.{toldOutcome, verdictOutcome, totalsOutcome, delayOutcome, worstOutcome, boundOutcome, marginOutcome, figuresOutcome, sizeIn, sizeOutcome};
+ghost use Rattle.bits.specs.Bits.{listOf};
+ghost use Rattle.answers.specs.Answers.{given, refusal};
+ghost use Rattle.sheet.specs.Answers.{toldBytes};
+ghost use Rattle.sheet.specs.Tasks.{tasksOf};
+ghost use Rattle.schedule.specs.Calls.{toldTotals};
+ghost use Rattle.schedule.specs.Calls.{tableAfter};
+ghost use Rattle.chain.specs.Calls.{toldDelay, toldWorst, toldBound, toldMargin, toldFigures};
+ghost use Rattle.bellkettle.specs.Numbers.{inNumbers, alone, signed, totalsNumbers, figureNumbers, summaryNumbers, countNumbers, answerTo};
+ghost use Rattle.bellkettle.specs.Fields.{periodsIn, budgetsIn, ranksIn, entriesIn, sixteen, counted, tasksCounted, taskFrom, entryFrom, sheetFrom};
+ghost use Rattle.bellkettle.specs.Promises.{SheetAsked, SheetRead, SheetWritten};
+ghost use Rattle.bellkettle.specs.Replies.{valuesTold, Tells, sizeIn};
 
-// What any call answers: one to three numbers, a margin, all that a report says, or a refusal.
-enum Outcome {
-    One(u32),
-    Two(u32, u32),
-    Three(u32, u32, u32),
-    Signed(i32),
-    All(Summary),
-    No(Refusal),
+// What is asked of a sheet.
+enum Question {
+    Responses,
+    Delay(u32),
+    Worst,
+    Bound,
+    Margin(u32),
+    DefaultMargin,
+    Figures,
 }
 
-fn wide(x: u8) -> u32
-    ensures { λ r. ⌜ r ≡ x ⌝ }
-{
-    x as u32
+// What is told: the number to return, and the values, which are the first `count` places.
+struct Reply {
+    number: u8,
+    count: usize,
+    values: [i64; 7],
 }
 
-// A value in its place, if the lent slice has it.
-fn put(values: &mut [i64], i: usize, x: u32)
-    ensures { λ _. ⌜ now (values .exit) ≡ set (now (values .entry)) i (pos x) ⌝ }
+fn wide(x: u32) -> i64
+    ensures { λ r. ⌜ r ≡ pos x ⌝ }
 {
-    if i < values.len() {
-        values[i] = x as i64;
-    }
+    x as i64
 }
 
-fn put_signed(values: &mut [i64], i: usize, z: i32)
-    ensures { λ _. ⌜ now (values .exit) ≡ set (now (values .entry)) i z ⌝ }
+fn wide_signed(z: i32) -> i64
+    ensures { λ r. ⌜ r ≡ z ⌝ }
 {
-    if i < values.len() {
-        values[i] = z as i64;
-    }
-}
-
-// H, J and idle, the worst figure and its release, the bound, the margin.
-fn put_summary(values: &mut [i64], s: Summary)
-    ensures { λ _. ⌜ now (values .exit) ≡ sets (now (values .entry)) 0 (summaryNumbers s) ⌝ }
-{
-    put(&mut *values, 0, s.totals.hyperperiod);
-    put(&mut *values, 1, s.totals.jobs);
-    put(&mut *values, 2, s.totals.idle);
-    put(&mut *values, 3, s.worst.ticks);
-    put(&mut *values, 4, s.worst.release);
-    put(&mut *values, 5, s.bound);
-    put_signed(&mut *values, 6, s.margin);
+    z as i64
 }
 
 // "A refusal returns its number; 15 also returns the index of the greatest-ranked late task."
-fn refuse(r: Refusal, values: &mut [i64]) -> u8
-    ensures { λ n. ⌜ n ≡ numberOf (refusal r) ⌝ }
-    ensures { λ _. ⌜ now (values .exit) ≡ valuesAfter (refusal r) (now (values .entry)) ⌝ }
+fn refuse(r: Refusal) -> Reply
+    ensures { λ reply. ⌜ Tells reply (refusal r) ⌝ }
 {
     match r {
-        Refusal::Number(n) => n,
-        Refusal::Late(i) => {
-            put(&mut *values, 0, wide(i));
-            15
+        Refusal::Number(number) => Reply {
+            number,
+            count: 0,
+            values: [0; 7],
+        },
+        Refusal::With(number, x) => Reply {
+            number,
+            count: 1,
+            values: [wide(x), 0, 0, 0, 0, 0, 0],
+        },
+    }
+}
+
+fn alone(n: u32) -> Reply
+    ensures { λ reply. ⌜ Tells reply (given (alone n)) ⌝ }
+{
+    Reply {
+        number: 0,
+        count: 1,
+        values: [wide(n), 0, 0, 0, 0, 0, 0],
+    }
+}
+
+fn signed(z: i32) -> Reply
+    ensures { λ reply. ⌜ Tells reply (given (signed z)) ⌝ }
+{
+    Reply {
+        number: 0,
+        count: 1,
+        values: [wide_signed(z), 0, 0, 0, 0, 0, 0],
+    }
+}
+
+fn figure_numbers(f: Figure) -> Reply
+    ensures { λ reply. ⌜ Tells reply (given (figureNumbers f)) ⌝ }
+{
+    Reply {
+        number: 0,
+        count: 2,
+        values: [wide(f.ticks), wide(f.release), 0, 0, 0, 0, 0],
+    }
+}
+
+fn count_numbers(s: Sheet) -> Reply
+    ensures { λ reply. ⌜ Tells reply (given (countNumbers s)) ⌝ }
+{
+    let n = s.count as u32;
+    let m = s.length as u32;
+    Reply {
+        number: 0,
+        count: 2,
+        values: [wide(n), wide(m), 0, 0, 0, 0, 0],
+    }
+}
+
+fn totals_numbers(t: Totals) -> Reply
+    ensures { λ reply. ⌜ Tells reply (given (totalsNumbers t)) ⌝ }
+{
+    Reply {
+        number: 0,
+        count: 3,
+        values: [wide(t.hyperperiod), wide(t.jobs), wide(t.idle), 0, 0, 0, 0],
+    }
+}
+
+fn summary_numbers(s: Summary) -> Reply
+    ensures { λ reply. ⌜ Tells reply (given (summaryNumbers s)) ⌝ }
+{
+    Reply {
+        number: 0,
+        count: 7,
+        values: [
+            wide(s.totals.hyperperiod),
+            wide(s.totals.jobs),
+            wide(s.totals.idle),
+            wide(s.worst.ticks),
+            wide(s.worst.release),
+            wide(s.bound),
+            wide_signed(s.margin),
+        ],
+    }
+}
+
+// "a refusal met on the way is handed up unchanged"
+fn responses_reply(a: Responses) -> Reply
+    ensures { λ reply. ⌜ Tells reply (inNumbers totalsNumbers (toldTotals a)) ⌝ }
+{
+    let Responses::Table(totals) = a else {
+        return refuse(schedule::responses_refusal(a));
+    };
+    totals_numbers(totals)
+}
+
+fn delay_reply(d: Delay) -> Reply
+    ensures { λ reply. ⌜ Tells reply (inNumbers alone (toldDelay d)) ⌝ }
+{
+    let Delay::Ticks(ticks) = d else {
+        return refuse(chain::delay_refusal(d));
+    };
+    alone(ticks)
+}
+
+fn worst_reply(w: Worst) -> Reply
+    ensures { λ reply. ⌜ Tells reply (inNumbers figureNumbers (toldWorst w)) ⌝ }
+{
+    let Worst::Is(figure) = w else {
+        return refuse(chain::worst_refusal(w));
+    };
+    figure_numbers(figure)
+}
+
+fn bound_reply(b: Bound) -> Reply
+    ensures { λ reply. ⌜ Tells reply (inNumbers alone (toldBound b)) ⌝ }
+{
+    let Bound::Ticks(ticks) = b else {
+        return refuse(chain::bound_refusal(b));
+    };
+    alone(ticks)
+}
+
+fn margin_reply(m: Margin) -> Reply
+    ensures { λ reply. ⌜ Tells reply (inNumbers signed (toldMargin m)) ⌝ }
+{
+    let Margin::Ticks(ticks) = m else {
+        return refuse(chain::margin_refusal(m));
+    };
+    signed(ticks)
+}
+
+fn figures_reply(f: Figures) -> Reply
+    ensures { λ reply. ⌜ Tells reply (inNumbers summaryNumbers (toldFigures f)) ⌝ }
+{
+    let Figures::Of(summary) = f else {
+        return refuse(chain::figures_refusal(f));
+    };
+    summary_numbers(summary)
+}
+
+fn written_reply(w: Written) -> Reply
+    requires { ⌜ sizeIn w ≤ 94 ⌝ }
+    ensures { λ reply. ⌜ Tells reply (inNumbers alone (toldBytes w)) ⌝ }
+{
+    let Written::Bytes(size) = w else {
+        return refuse(sheet::written_refusal(w));
+    };
+    alone(size as u32)
+}
+
+// The reply to a question, and the table as the answer leaves it.
+fn answer(question: Question, s: Sheet, table: &mut [u32]) -> Reply
+    ensures { λ reply. ⌜ Tells reply (answerTo question (length (now (table .entry))) s) ⌝ }
+    ensures { λ _. ⌜ now (table .exit) ≡ tableAfter (answerTo question (length (now (table .entry))) s) (tasksOf s) (now (table .entry)) ⌝ }
+{
+    match question {
+        Question::Responses => responses_reply(schedule::responses(s, &mut *table)),
+        Question::Delay(release) => delay_reply(chain::delay(s, release, &mut *table)),
+        Question::Worst => worst_reply(chain::worst(s, &mut *table)),
+        Question::Bound => bound_reply(chain::bound(s, &mut *table)),
+        Question::Margin(limit) => margin_reply(chain::margin(s, limit, &mut *table)),
+        Question::DefaultMargin => margin_reply(chain::default_margin(s, &mut *table)),
+        Question::Figures => {
+            let filled = chain::figures(s, &mut *table);
+            let figures = filled.answer;
+            figures_reply(figures)
         }
+    }
+}
+
+// A value in its place, if the lent slice has it.
+fn put(values: &mut [i64], i: usize, x: i64)
+    ensures { λ _. ⌜ now (values .exit) ≡ set (now (values .entry)) i x ⌝ }
+{
+    if i < values.len() {
+        values[i] = x;
     }
 }
 
 // The number to return, with the values in their places.
-fn hand(o: Outcome, values: &mut [i64]) -> u8
-    ensures { λ n. ⌜ n ≡ numberOf (toldOutcome o) ⌝ }
-    ensures { λ _. ⌜ now (values .exit) ≡ valuesAfter (toldOutcome o) (now (values .entry)) ⌝ }
+fn hand(reply: Reply, values: &mut [i64]) -> u8
+    requires { ⌜ reply .count ≤ 7 ⌝ }
+    ensures { λ n. ⌜ n ≡ reply .number ⌝ }
+    ensures { λ _. ⌜ now (values .exit) ≡ sets (now (values .entry)) 0 (valuesTold reply) ⌝ }
 {
-    match o {
-        Outcome::One(a) => {
-            put(&mut *values, 0, a);
-            0
-        }
-        Outcome::Two(a, b) => {
-            put(&mut *values, 0, a);
-            put(&mut *values, 1, b);
-            0
-        }
-        Outcome::Three(a, b, c) => {
-            put(&mut *values, 0, a);
-            put(&mut *values, 1, b);
-            put(&mut *values, 2, c);
-            0
-        }
-        Outcome::Signed(z) => {
-            put_signed(&mut *values, 0, z);
-            0
-        }
-        Outcome::All(s) => {
-            put_summary(&mut *values, s);
-            0
-        }
-        Outcome::No(r) => refuse(r, &mut *values),
+    let mut i = 0usize;
+    while i < reply.count {
+        put(&mut *values, i, reply.values[i]);
+        i += 1;
     }
+    reply.number
 }
 
-fn verdict_outcome(v: Verdict) -> Outcome
-    ensures { λ r. ⌜ r ≡ verdictOutcome v ⌝ }
+// The sheet is read, and then asked.
+fn ask(question: Question, sheet: &[u8], table: &mut [u32], values: &mut [i64]) -> u8
+    ensures { λ r. ⌜ SheetAsked question (now (sheet .entry)) r (now (values .entry)) (now (values .exit)) (now (table .entry)) (now (table .exit)) ⌝ }
 {
-    match v {
-        Verdict::Fine => Outcome::No(Refusal::Number(0)),
-        Verdict::No(r) => Outcome::No(r),
-    }
-}
-
-fn totals_outcome(a: Responses) -> Outcome
-    ensures { λ r. ⌜ r ≡ totalsOutcome a ⌝ }
-{
-    match a {
-        Responses::Table(t) => Outcome::Three(t.hyperperiod, t.jobs, t.idle),
-        Responses::No(r) => Outcome::No(r),
-    }
-}
-
-fn delay_outcome(d: Delay) -> Outcome
-    ensures { λ r. ⌜ r ≡ delayOutcome d ⌝ }
-{
-    match d {
-        Delay::Ticks(n) => Outcome::One(n),
-        Delay::No(r) => Outcome::No(r),
-    }
-}
-
-fn worst_outcome(w: Worst) -> Outcome
-    ensures { λ r. ⌜ r ≡ worstOutcome w ⌝ }
-{
-    match w {
-        Worst::Is(f) => Outcome::Two(f.ticks, f.release),
-        Worst::No(r) => Outcome::No(r),
-    }
-}
-
-fn bound_outcome(b: Bound) -> Outcome
-    ensures { λ r. ⌜ r ≡ boundOutcome b ⌝ }
-{
-    match b {
-        Bound::Ticks(n) => Outcome::One(n),
-        Bound::No(r) => Outcome::No(r),
-    }
-}
-
-fn margin_outcome(m: Margin) -> Outcome
-    ensures { λ r. ⌜ r ≡ marginOutcome m ⌝ }
-{
-    match m {
-        Margin::Ticks(z) => Outcome::Signed(z),
-        Margin::No(r) => Outcome::No(r),
-    }
-}
-
-fn figures_outcome(a: Figures) -> Outcome
-    ensures { λ r. ⌜ r ≡ figuresOutcome a ⌝ }
-{
-    match a {
-        Figures::Of(s) => Outcome::All(s),
-        Figures::No(r) => Outcome::No(r),
-    }
-}
-
-fn size_outcome(w: Written) -> Outcome
-    requires { ⌜ sizeIn w ≤ 94 ⌝ }
-    ensures { λ r. ⌜ r ≡ sizeOutcome w ⌝ }
-{
-    match w {
-        Written::Bytes(n) => Outcome::One(n as u32),
-        Written::No(r) => Outcome::No(r),
-    }
+    let reading = sheet::read(sheet);
+    let verdict = reading.verdict;
+    let Verdict::Fine = verdict else {
+        return hand(refuse(answers::refusal_of(verdict)), &mut *values);
+    };
+    hand(answer(question, reading.sheet, &mut *table), &mut *values)
 }
 
 // H, J and idle, and the responses in the table.
 #[no_mangle]
 pub extern "C" fn bellkettle_responses(sheet: &[u8], table: &mut [u32], values: &mut [i64]) -> u8
-    ensures { λ r. ⌜ Ended (now (sheet .entry)) (λ s. responsesOf s (length (now (table .entry)))) totalsNumbers r (now (values .entry)) (now (values .exit)) (now (table .entry)) (now (table .exit)) ⌝ }
+    ensures { λ r. ⌜ SheetAsked Question.Responses (now (sheet .entry)) r (now (values .entry)) (now (values .exit)) (now (table .entry)) (now (table .exit)) ⌝ }
 {
-    let reading = sheet::read(sheet);
-    let verdict = reading.verdict;
-    let Verdict::Fine = verdict else {
-        return hand(verdict_outcome(verdict), &mut *values);
-    };
-    let answer = schedule::responses(reading.sheet, &mut *table);
-    hand(totals_outcome(answer), &mut *values)
+    ask(Question::Responses, sheet, &mut *table, &mut *values)
 }
 
 // The delay of the sheet's chain at a release of its first task.
@@ -215,43 +286,25 @@ pub extern "C" fn bellkettle_delay(
     table: &mut [u32],
     values: &mut [i64],
 ) -> u8
-    ensures { λ r. ⌜ Ended (now (sheet .entry)) (λ s. delayOf s release (length (now (table .entry)))) alone r (now (values .entry)) (now (values .exit)) (now (table .entry)) (now (table .exit)) ⌝ }
+    ensures { λ r. ⌜ SheetAsked (Question.Delay release) (now (sheet .entry)) r (now (values .entry)) (now (values .exit)) (now (table .entry)) (now (table .exit)) ⌝ }
 {
-    let reading = sheet::read(sheet);
-    let verdict = reading.verdict;
-    let Verdict::Fine = verdict else {
-        return hand(verdict_outcome(verdict), &mut *values);
-    };
-    let answer = chain::delay(reading.sheet, release, &mut *table);
-    hand(delay_outcome(answer), &mut *values)
+    ask(Question::Delay(release), sheet, &mut *table, &mut *values)
 }
 
 // The worst figure, and the smallest release that gives it.
 #[no_mangle]
 pub extern "C" fn bellkettle_worst(sheet: &[u8], table: &mut [u32], values: &mut [i64]) -> u8
-    ensures { λ r. ⌜ Ended (now (sheet .entry)) (λ s. worstOf s (length (now (table .entry)))) figureNumbers r (now (values .entry)) (now (values .exit)) (now (table .entry)) (now (table .exit)) ⌝ }
+    ensures { λ r. ⌜ SheetAsked Question.Worst (now (sheet .entry)) r (now (values .entry)) (now (values .exit)) (now (table .entry)) (now (table .exit)) ⌝ }
 {
-    let reading = sheet::read(sheet);
-    let verdict = reading.verdict;
-    let Verdict::Fine = verdict else {
-        return hand(verdict_outcome(verdict), &mut *values);
-    };
-    let answer = chain::worst(reading.sheet, &mut *table);
-    hand(worst_outcome(answer), &mut *values)
+    ask(Question::Worst, sheet, &mut *table, &mut *values)
 }
 
 // The quick bound.
 #[no_mangle]
 pub extern "C" fn bellkettle_bound(sheet: &[u8], table: &mut [u32], values: &mut [i64]) -> u8
-    ensures { λ r. ⌜ Ended (now (sheet .entry)) (λ s. boundOf s (length (now (table .entry)))) alone r (now (values .entry)) (now (values .exit)) (now (table .entry)) (now (table .exit)) ⌝ }
+    ensures { λ r. ⌜ SheetAsked Question.Bound (now (sheet .entry)) r (now (values .entry)) (now (values .exit)) (now (table .entry)) (now (table .exit)) ⌝ }
 {
-    let reading = sheet::read(sheet);
-    let verdict = reading.verdict;
-    let Verdict::Fine = verdict else {
-        return hand(verdict_outcome(verdict), &mut *values);
-    };
-    let answer = chain::bound(reading.sheet, &mut *table);
-    hand(bound_outcome(answer), &mut *values)
+    ask(Question::Bound, sheet, &mut *table, &mut *values)
 }
 
 // A limit less the worst figure.
@@ -262,15 +315,9 @@ pub extern "C" fn bellkettle_margin(
     table: &mut [u32],
     values: &mut [i64],
 ) -> u8
-    ensures { λ r. ⌜ Ended (now (sheet .entry)) (λ s. marginOf s limit (length (now (table .entry)))) signed r (now (values .entry)) (now (values .exit)) (now (table .entry)) (now (table .exit)) ⌝ }
+    ensures { λ r. ⌜ SheetAsked (Question.Margin limit) (now (sheet .entry)) r (now (values .entry)) (now (values .exit)) (now (table .entry)) (now (table .exit)) ⌝ }
 {
-    let reading = sheet::read(sheet);
-    let verdict = reading.verdict;
-    let Verdict::Fine = verdict else {
-        return hand(verdict_outcome(verdict), &mut *values);
-    };
-    let answer = chain::margin(reading.sheet, limit, &mut *table);
-    hand(margin_outcome(answer), &mut *values)
+    ask(Question::Margin(limit), sheet, &mut *table, &mut *values)
 }
 
 // "The call without a limit uses 1,000 ticks."
@@ -280,30 +327,17 @@ pub extern "C" fn bellkettle_default_margin(
     table: &mut [u32],
     values: &mut [i64],
 ) -> u8
-    ensures { λ r. ⌜ Ended (now (sheet .entry)) (λ s. defaultMarginOf s (length (now (table .entry)))) signed r (now (values .entry)) (now (values .exit)) (now (table .entry)) (now (table .exit)) ⌝ }
+    ensures { λ r. ⌜ SheetAsked Question.DefaultMargin (now (sheet .entry)) r (now (values .entry)) (now (values .exit)) (now (table .entry)) (now (table .exit)) ⌝ }
 {
-    let reading = sheet::read(sheet);
-    let verdict = reading.verdict;
-    let Verdict::Fine = verdict else {
-        return hand(verdict_outcome(verdict), &mut *values);
-    };
-    let answer = chain::default_margin(reading.sheet, &mut *table);
-    hand(margin_outcome(answer), &mut *values)
+    ask(Question::DefaultMargin, sheet, &mut *table, &mut *values)
 }
 
 // What a report says, from one filling of the table.
 #[no_mangle]
 pub extern "C" fn bellkettle_figures(sheet: &[u8], table: &mut [u32], values: &mut [i64]) -> u8
-    ensures { λ r. ⌜ Ended (now (sheet .entry)) (λ s. figuresOf s (length (now (table .entry)))) summaryNumbers r (now (values .entry)) (now (values .exit)) (now (table .entry)) (now (table .exit)) ⌝ }
+    ensures { λ r. ⌜ SheetAsked Question.Figures (now (sheet .entry)) r (now (values .entry)) (now (values .exit)) (now (table .entry)) (now (table .exit)) ⌝ }
 {
-    let reading = sheet::read(sheet);
-    let verdict = reading.verdict;
-    let Verdict::Fine = verdict else {
-        return hand(verdict_outcome(verdict), &mut *values);
-    };
-    let filled = chain::figures(reading.sheet, &mut *table);
-    let answer = filled.answer;
-    hand(figures_outcome(answer), &mut *values)
+    ask(Question::Figures, sheet, &mut *table, &mut *values)
 }
 
 // A number in its place, if the lent slice has it.
@@ -351,20 +385,16 @@ pub extern "C" fn bellkettle_read(
     chain: &mut [u8],
     values: &mut [i64],
 ) -> u8
-    ensures { λ r. ⌜ Returned (answered (now (sheet .entry)) given countsOf) r (now (values .entry)) (now (values .exit)) ⌝ }
-    ensures { λ _. ⌜ now (periods .exit) ≡ fieldsAfter (now (sheet .entry)) periodsIn (now (periods .entry)) ⌝ }
-    ensures { λ _. ⌜ now (budgets .exit) ≡ fieldsAfter (now (sheet .entry)) budgetsIn (now (budgets .entry)) ⌝ }
-    ensures { λ _. ⌜ now (ranks .exit) ≡ fieldsAfter (now (sheet .entry)) ranksIn (now (ranks .entry)) ⌝ }
-    ensures { λ _. ⌜ now (chain .exit) ≡ fieldsAfter (now (sheet .entry)) entriesIn (now (chain .entry)) ⌝ }
+    ensures { λ r. ⌜ SheetRead (now (sheet .entry)) r (now (values .entry)) (now (values .exit)) (now (periods .entry)) (now (periods .exit)) (now (budgets .entry)) (now (budgets .exit)) (now (ranks .entry)) (now (ranks .exit)) (now (chain .entry)) (now (chain .exit)) ⌝ }
 {
     let reading = sheet::read(sheet);
     let verdict = reading.verdict;
     let Verdict::Fine = verdict else {
-        return hand(verdict_outcome(verdict), &mut *values);
+        return hand(refuse(answers::refusal_of(verdict)), &mut *values);
     };
     let s = reading.sheet;
     spread(s, &mut *periods, &mut *budgets, &mut *ranks, &mut *chain);
-    hand(Outcome::Two(wide(s.count), wide(s.length)), &mut *values)
+    hand(count_numbers(s), &mut *values)
 }
 
 // How many there are, or one more than a sheet has places for.
@@ -408,16 +438,6 @@ fn byte_at(bytes: &[u8], i: usize) -> u8
     0
 }
 
-// The places that are taken of sixteen.
-fn taken(k: u8) -> u8
-    ensures { λ r. ⌜ r ≡ min k 16 ⌝ }
-{
-    if k < 16 {
-        return k;
-    }
-    16
-}
-
 fn task_from(periods: &[u32], budgets: &[u32], ranks: &[u8], i: usize) -> Task
     ensures { λ r. ⌜ r ≡ taskFrom (now (periods .entry)) (now (budgets .entry)) (now (ranks .entry)) i ⌝ }
 {
@@ -431,8 +451,8 @@ fn task_from(periods: &[u32], budgets: &[u32], ranks: &[u8], i: usize) -> Task
     }
 }
 
-fn tasks_from(periods: &[u32], budgets: &[u32], ranks: &[u8], n: u8) -> [Task; 16]
-    ensures { λ r. ⌜ r ≡ places none n (taskFrom (now (periods .entry)) (now (budgets .entry)) (now (ranks .entry))) ⌝ }
+fn tasks_from(periods: &[u32], budgets: &[u32], ranks: &[u8]) -> [Task; 16]
+    ensures { λ r. ⌜ r ≡ listOf 16 (taskFrom (now (periods .entry)) (now (budgets .entry)) (now (ranks .entry))) ⌝ }
 {
     let blank = Task {
         period: 0,
@@ -440,25 +460,21 @@ fn tasks_from(periods: &[u32], budgets: &[u32], ranks: &[u8], n: u8) -> [Task; 1
         rank: 0,
     };
     let mut tasks = [blank; 16];
-    let end = taken(n);
-    let mut i = 0u8;
-    while i < end {
-        let k = i as usize;
-        tasks[k] = task_from(periods, budgets, ranks, k);
+    let mut i = 0usize;
+    while i < 16 {
+        tasks[i] = task_from(periods, budgets, ranks, i);
         i += 1;
     }
     tasks
 }
 
-fn chain_from(chain: &[u8], m: u8) -> [u8; 16]
-    ensures { λ r. ⌜ r ≡ places 0 m (λ i. getD (now (chain .entry)) i 0) ⌝ }
+fn chain_from(chain: &[u8]) -> [u8; 16]
+    ensures { λ r. ⌜ r ≡ listOf 16 (entryFrom (now (chain .entry))) ⌝ }
 {
     let mut entries = [0u8; 16];
-    let end = taken(m);
-    let mut i = 0u8;
-    while i < end {
-        let k = i as usize;
-        entries[k] = byte_at(chain, k);
+    let mut i = 0usize;
+    while i < 16 {
+        entries[i] = byte_at(chain, i);
         i += 1;
     }
     entries
@@ -467,15 +483,15 @@ fn chain_from(chain: &[u8], m: u8) -> [u8; 16]
 fn sheet_from(periods: &[u32], budgets: &[u32], ranks: &[u8], chain: &[u8]) -> Sheet
     ensures { λ r. ⌜ r ≡ sheetFrom (now (periods .entry)) (now (budgets .entry)) (now (ranks .entry)) (now (chain .entry)) ⌝ }
 {
-    let n = tasks_counted(periods, budgets, ranks);
-    let m = few(chain.len());
-    let tasks = tasks_from(periods, budgets, ranks, n);
-    let entries = chain_from(chain, m);
+    let tasks = tasks_from(periods, budgets, ranks);
+    let entries = chain_from(chain);
+    let count = tasks_counted(periods, budgets, ranks);
+    let length = few(chain.len());
     Sheet {
         tasks,
         chain: entries,
-        count: n,
-        length: m,
+        count,
+        length,
     }
 }
 
@@ -489,9 +505,9 @@ pub extern "C" fn bellkettle_write(
     out: &mut [u8],
     values: &mut [i64],
 ) -> u8
-    ensures { λ r. ⌜ WriteEnded (sheetFrom (now (periods .entry)) (now (budgets .entry)) (now (ranks .entry)) (now (chain .entry))) r (now (values .entry)) (now (values .exit)) (now (out .entry)) (now (out .exit)) ⌝ }
+    ensures { λ r. ⌜ SheetWritten (now (periods .entry)) (now (budgets .entry)) (now (ranks .entry)) (now (chain .entry)) r (now (values .entry)) (now (values .exit)) (now (out .entry)) (now (out .exit)) ⌝ }
 {
     let s = sheet_from(periods, budgets, ranks, chain);
-    let answer = sheet::write(s, &mut *out);
-    hand(size_outcome(answer), &mut *values)
+    let written = sheet::write(s, &mut *out);
+    hand(written_reply(written), &mut *values)
 }

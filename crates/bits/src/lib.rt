@@ -1,10 +1,11 @@
-// Bits in bytes, most significant first: a number read from any place, and a number put there, for every input. What bits, numbers
-// and bytes have to do with each other is said in specs/Bits.antt; the laws beside it serve every packed format.
+// Bits in bytes, most significant first: a number read from any place, and a number put there, for every input, as the predicates in
+// specs/Promises.antt say. What bits, numbers and bytes have to do with each other is said in specs/Bits.antt; the laws beside it serve
+// every packed format.
 ghost use mathlib.Core.Path.{_≡_};
 ghost use Prim.Native.Nat.{_-_, _*_, _/_, _^_, _<_, min};
 ghost use lib.ListN.{set};
-ghost use lib.Seq.{sets};
 ghost use Rattle.bits.specs.Bits.{odd, bits, unpack, number};
+ghost use Rattle.bits.specs.Promises.{NumberPromise, PutPromise};
 
 fn wide(x: u8) -> u64
     ensures { λ r. ⌜ r ≡ x ⌝ }
@@ -55,7 +56,7 @@ fn around(bytes: &[u8], at: u32) -> u64
 
 // The number in the `width` bits from bit `at` on. A bit past the end counts as 0, and a width over 32 as 32.
 pub fn number(bytes: &[u8], at: u32, width: u32) -> u32
-    ensures { λ r. ⌜ r ≡ number (unpack (now (bytes .entry))) at (min width 32) ⌝ }
+    ensures { λ r. ⌜ NumberPromise (now (bytes .entry)) at width r ⌝ }
 {
     let end = held(width);
     let rest = 40 - at % 8 - end;
@@ -86,7 +87,7 @@ fn put_bit(out: &mut [u8], at: usize, b: u64)
 
 // The `width` lowest bits of a value put at bit `at`. A bit past the end is dropped, and a width over 32 counts as 32.
 pub fn put(out: &mut [u8], at: u32, width: u32, value: u32)
-    ensures { λ r. ⌜ unpack (now (out .exit)) ≡ sets (unpack (now (out .entry))) at (bits (min width 32) value) ⌝ }
+    ensures { λ r. ⌜ PutPromise (now (out .entry)) at width value (now (out .exit)) ⌝ }
 {
     let end = held(width);
     let mut k = 0u32;

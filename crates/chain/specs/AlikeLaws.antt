@@ -4,9 +4,9 @@ use mathlib.Core.List.{List, [], _∷_}
 use Prim.Native.Nat.{ℕ, _/_, _<_}
 use lib.ListN.{length}
 use Rattle.theory.specs.declared.Task.{Task}
-use Rattle.theory.specs.Model.{period, rank}
-use Rattle.theory.specs.Chain.{Chain, Table, nextRelease, delay, bound}
-use Rattle.theory.specs.ChainLaws.{chain-head}
+use Rattle.theory.specs.Model.Schedule.{period, rank}
+use Rattle.theory.specs.Model.Chain.{Chain, Table, nextRelease, delay, bound}
+use Rattle.theory.specs.Analysis.ChainLaws.{chain-head}
 
 module _ (ts us : List Task) (periods : (i : ℕ) → i < length ts → period us i ≡ period ts i) (ranks : (i : ℕ) → i < length ts → rank us i ≡ rank ts i) where
   pub delay-alike : (table table′ : Table) → ((i k : ℕ) → i < length ts → table′ i k ≡ table i k)

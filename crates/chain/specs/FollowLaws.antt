@@ -5,36 +5,36 @@ use Prim.Native.Nat.{ℕ, _+_, _≤_, _<_}
 use native.Mathlib.Nat.{le-trans}
 use native.Mathlib.Omega.{arith}
 use Rattle.chain.specs.declared.answer.HandOver.{HandOver}
-use Rattle.chain.specs.Steps.{delayIn, Opened}
+use Rattle.chain.specs.Conditions.{delayIn, FirstHandedOver}
 use Rattle.chain.specs.GreatestLaws.{GreatestTo, greatest-none, greatest-new, greatest-kept}
-use Rattle.chain.specs.WalkLaws.{opened-together}
+use Rattle.chain.specs.WalkLaws.{handed-together}
 
 module _ (periods ranks starts counts table chain rest : List ℕ) where
   abbrev delays : ℕ → ℕ
   delays = delayIn periods ranks starts counts table chain
 
-  abbrev Opening : ℕ → HandOver → Type 0
-  Opening = Opened periods ranks starts counts table chain rest
+  abbrev HandedOn : ℕ → HandOver → Type 0
+  HandedOn = FirstHandedOver periods ranks starts counts table chain rest
 
   -- Of the first k readings the longest delay is `ticks`, first that of job `at`; none that is still to come and goes to the job
   -- before `followed` takes longer.
   pub record Followed (k ticks at followed : ℕ) : Type 0 where
     pub greatest : GreatestTo delays k ticks at
-    pub none-longer : (j : ℕ) (x : HandOver) → k ≤ j → Opening j x → x .job + 1 ≡ followed → delays j ≤ ticks
+    pub none-longer : (j : ℕ) (x : HandOver) → k ≤ j → HandedOn j x → x .job + 1 ≡ followed → delays j ≤ ticks
 
   pub followed-none : Followed 0 0 0 0
   followed-none = record { greatest = greatest-none delays; none-longer = λ j x l o e. absurd (omega arith) }
 
-  module _ {k ticks at followed : ℕ} (f : Followed k ticks at followed) {next : HandOver} (opening : Opening k next) where
+  module _ {k ticks at followed : ℕ} (f : Followed k ticks at followed) {next : HandOver} (handed : HandedOn k next) where
     -- The reading of job k goes where the last one that was followed went,
     pub followed-again : next .job + 1 ≡ followed → Followed (k + 1) ticks at followed
     followed-again e = record {
-      greatest = greatest-kept delays k ticks at (f .greatest) (f .none-longer k next (omega arith) opening e);
+      greatest = greatest-kept delays k ticks at (f .greatest) (f .none-longer k next (omega arith) handed e);
       none-longer = λ j x l o q. f .none-longer j x (omega arith) o q;
     }
 
-    together : (t : ℕ) → delays k ≤ t → (j : ℕ) (x : HandOver) → k + 1 ≤ j → Opening j x → x .job + 1 ≡ next .job + 1 → delays j ≤ t
-    together t m j x l o q = le-trans (opened-together (omega arith) opening o (omega arith)) m
+    together : (t : ℕ) → delays k ≤ t → (j : ℕ) (x : HandOver) → k + 1 ≤ j → HandedOn j x → x .job + 1 ≡ next .job + 1 → delays j ≤ t
+    together t m j x l o q = le-trans (handed-together (omega arith) handed o (omega arith)) m
 
     -- or it is followed, and takes longer than those before it, or not.
     pub followed-longer : ticks < delays k → Followed (k + 1) (delays k) k (next .job + 1)

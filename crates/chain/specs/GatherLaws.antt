@@ -1,19 +1,23 @@
 -- Gathering the tasks of a sheet: one more of each column, and where its row lies in the table.
-use mathlib.Core.Path.{_≡_, sym, ap₂, _∙_}
+use mathlib.Core.Path.{_≡_, sym, _∙_}
 use mathlib.Core.List.{List}
-use Prim.Native.Nat.{ℕ, suc, _+_, _-_, _/_, _≤_, _<_}
+use Prim.Native.Nat.{ℕ, suc, _+_, _-_, _≤_, _<_}
 use native.Mathlib.Omega.{arith}
 use lib.ListN.{length, getD, set, length-set}
 use lib.Seq.{getD-set-same, getD-set-other}
 use borrow.Author.Count.{below-more}
 use Rattle.theory.specs.declared.Task.{Task}
-use Rattle.theory.specs.Ranges.{sum, sum-grows}
-use Rattle.theory.specs.Model.{none, period, rank}
-use Rattle.theory.specs.Responses.{hyperperiod, jobs, allJobs}
+use Rattle.arith.specs.Ranges.{sum}
+use Rattle.arith.specs.RangeLaws.{sum-grows}
+use Rattle.theory.specs.Model.Schedule.{none, period, rank}
+use Rattle.theory.specs.Model.Responses.{jobs, allJobs}
 use Rattle.sheet.specs.declared.Sheet.{Sheet}
-use Rattle.schedule.specs.Answer.{mostJobs, tasksOf}
-use Rattle.chain.specs.Steps.{Taken, Column, Gathered}
-use Rattle.chain.specs.SheetLaws.{tasks-length, period-at, rank-at}
+use Rattle.sheet.specs.Sound.{Sound}
+use Rattle.sheet.specs.Tasks.{tasksOf}
+use Rattle.sheet.specs.TaskLaws.{period-at, rank-at}
+use Rattle.schedule.specs.Calls.{mostJobs}
+use Rattle.schedule.specs.Taken.{Taken}
+use Rattle.chain.specs.Conditions.{Column, Gathered}
 
 column-none : (places : List ℕ) (f : ℕ → ℕ) → length places ≡ 16 → Column places 0 f
 column-none places f whole = record { whole = whole; holds = λ i l. absurd (omega arith) }
@@ -35,26 +39,23 @@ gathered-none ts a b c d = record {
   counts-are = column-none _ _ d;
 }
 
--- The rows up to that of task i lie in the table.
+-- The rows up to that of task i lie in the table,
 pub row-within : (ts : List Task) (i : ℕ) → i < length ts → sum i (jobs ts) + jobs ts i ≤ allJobs ts
 unfolding allJobs sum
 row-within ts i l = sum-grows (jobs ts) (suc i) (length ts) l
 
-module _ {s : Sheet} (taken : Taken s) (i : ℕ) (known : i < s .count) where
-  pub jobs-at : {h : ℕ} → h ≡ hyperperiod (tasksOf s) → h / getD (s .tasks) i none .period ≡ jobs (tasksOf s) i
-  jobs-at e = ap₂ _/_ e (sym (period-at (taken .sound) i known))
+-- which has few.
+pub row-few : {ts : List Task} → Taken ts → (i : ℕ) → i < length ts → sum i (jobs ts) + jobs ts i ≤ mostJobs
+row-few {ts} taken i l = omega (arith, row-within ts i l, taken .few)
 
-  pub row-few : sum i (jobs (tasksOf s)) + jobs (tasksOf s) i ≤ mostJobs
-  row-few = omega (arith, row-within (tasksOf s) i (omega (arith, tasks-length (taken .sound))), taken .few)
-
-  pub gathered-more : {periods ranks starts counts : List ℕ} (from count : ℕ) → Gathered (tasksOf s) i periods ranks starts counts
-      → from ≡ sum i (jobs (tasksOf s)) → count ≡ jobs (tasksOf s) i
-      → Gathered (tasksOf s) (i + 1) (set periods i (getD (s .tasks) i none .period)) (set ranks i (getD (s .tasks) i none .rank)) (set starts i from) (set counts i count)
-  gathered-more from count g e q =
-      let l : i < 16 = omega (arith, taken .sound .count-most) in
-      record {
-        periods-are = column-more _ l (g .periods-are) (sym (period-at (taken .sound) i known));
-        ranks-are = column-more _ l (g .ranks-are) (sym (rank-at (taken .sound) i known));
-        starts-are = column-more _ l (g .starts-are) e;
-        counts-are = column-more _ l (g .counts-are) q;
-      }
+pub gathered-more : {s : Sheet} → Sound s → (i : ℕ) → i < s .count → {periods ranks starts counts : List ℕ} (from count : ℕ) → Gathered (tasksOf s) i periods ranks starts counts
+    → from ≡ sum i (jobs (tasksOf s)) → count ≡ jobs (tasksOf s) i
+    → Gathered (tasksOf s) (i + 1) (set periods i (getD (s .tasks) i none .period)) (set ranks i (getD (s .tasks) i none .rank)) (set starts i from) (set counts i count)
+gathered-more sound i known from count g e q =
+    let l : i < 16 = omega (arith, sound .count-most) in
+    record {
+      periods-are = column-more _ l (g .periods-are) (sym (period-at sound i known));
+      ranks-are = column-more _ l (g .ranks-are) (sym (rank-at sound i known));
+      starts-are = column-more _ l (g .starts-are) e;
+      counts-are = column-more _ l (g .counts-are) q;
+    }

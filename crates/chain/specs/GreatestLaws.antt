@@ -1,18 +1,14 @@
 -- The greatest of some numbers, found one by one, and the first place that holds it.
-use mathlib.Core.Path.{_≡_, refl, sym, ap, ap₂, _∙_}
+use mathlib.Core.Path.{_≡_, refl, sym, ap, _∙_}
 use mathlib.Core.Bool.{Bool}
-use Prim.Native.Nat.{ℕ, zero, suc, _+_, _-_, max, _≤_, _<_}
+use Prim.Native.Nat.{ℕ, _+_, _-_, _≤_, _<_}
 use native.Mathlib.Numerals.{add-one}
 use native.Mathlib.Decide.{decLt}
 use native.Mathlib.Omega.{arith}
 use lib.Dec.{eqb}
 use borrow.Author.Tests.{eqb-true, eq-eqb}
-use Rattle.theory.specs.Ranges.{maximum, least, maximum-above, least-passes, least-first}
-
-pub maximum-same : (n : ℕ) (f g : ℕ → ℕ) → ((k : ℕ) → k < n → f k ≡ g k) → maximum n f ≡ maximum n g
-unfolding maximum
-maximum-same zero f g h = refl
-maximum-same (suc n) f g h = ap₂ max (maximum-same n f g (λ k l. h k (omega arith))) (h n (omega arith))
+use Rattle.arith.specs.Ranges.{maximum, least}
+use Rattle.arith.specs.RangeLaws.{maximum-above, least-passes, least-first}
 
 -- Of the first n numbers the greatest is `most`, and `at` is the first place that holds it.
 pub record GreatestTo (f : ℕ → ℕ) (n most at : ℕ) : Type 0 where

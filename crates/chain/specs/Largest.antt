@@ -2,16 +2,20 @@
 use mathlib.Core.List.{List, [], _∷_}
 use mathlib.Core.Bool.{Bool, true, false, cond}
 use Prim.Native.Nat.{ℕ, suc, _+_, _-_, _*_, _/_, _≤_, _<_}
-use native.Mathlib.Nat.{le-of-dvd}
+use native.Mathlib.Nat.{le-of-dvd, le-trans}
 use native.Mathlib.Omega.{arith}
-use lib.ListN.{length, getD}
+use lib.ListN.{length, getD, length-drop}
 use Rattle.arith.specs.Whole.{up}
 use Rattle.arith.specs.WholeLaws.{gcd-divides-right, gcd-pos, up-near}
+use Rattle.arith.specs.RangeLaws.{maximum-least}
 use Rattle.theory.specs.declared.Task.{Task}
-use Rattle.theory.specs.Model.{period}
-use Rattle.theory.specs.Chain.{Chain, outranks, Table, nextRelease, delay, common, bound}
-use Rattle.chain.specs.Answer.{firstOf, restOf}
-use Rattle.chain.specs.Steps.{mostPeriod, mostWait}
+use Rattle.theory.specs.Model.Schedule.{period, release}
+use Rattle.theory.specs.Model.Chain.{Chain, outranks, Table, nextRelease, delay, common, bound, worst}
+use Rattle.theory.specs.Model.Responses.{response, jobs}
+use Rattle.theory.specs.Analysis.Repetition.{response-period}
+use Rattle.sheet.specs.Tasks.{firstOf, restOf}
+use Rattle.chain.specs.Conditions.{mostPeriod, mostWait, TakenChain, mostFigure}
+use Rattle.chain.specs.Calls.{figureOf}
 
 -- ---- what holds of every task on a chain
 
@@ -84,3 +88,29 @@ module _ (ts : List Task) (R : ℕ → ℕ) where
   unfolding bound
   bound-most p [] s = omega (arith, s .response-most)
   bound-most p (c ∷ rest) s = omega (arith, pair-most p c (s .0) (along-first (SmallTask ts R) c rest (s .1)), bound-most c rest (s .1))
+
+-- ---- the worst figure
+
+module _ {ts : List Task} {chain : List ℕ} (taken : TakenChain ts chain) where
+  task-small : (i : ℕ) → i < length ts → Small ts (response ts) i
+  task-small i l = record {
+    period-positive = taken .tasks .accepted .proper .period-positive i l;
+    period-most = taken .tasks .period-most i l;
+    response-most = λ k. le-trans (response-period (taken .tasks .accepted) i l k) (taken .tasks .period-most i l);
+  }
+
+  -- Sixteen tasks: fifteen hand-overs and the last response.
+  pub worst-most : figureOf ts chain .ticks ≤ mostFigure
+  unfolding worst
+  worst-most = maximum-least (jobs ts p) (λ k. delay ts (response ts) p rest (release ts p k)) mostFigure (λ k l. omega (
+    arith,
+    length-drop 1 chain,
+    taken .few,
+    delay-most ts (response ts) p rest (release ts p k) (along-chain (Small ts (response ts)) ts task-small p rest (taken .known)),
+  ))
+    where
+      p : ℕ
+      p = firstOf chain
+
+      rest : List ℕ
+      rest = restOf chain

@@ -1,19 +1,21 @@
--- The reader's part: what the calls answer and leave in the table.
-pub mod Answer
--- What the functions under the calls promise each other, and laws of it.
-pub mod Steps
+-- The reader's part: what the calls answer, and what each promises.
+pub mod Calls
+pub mod Promises
+-- The laws of the calls: their refusals, and their answers case by case.
+pub mod NumberLaws
+pub mod CallLaws
+-- What the functions under the calls require and ensure, and laws of it.
+pub mod Conditions
 pub mod GreatestLaws
 pub mod MarginLaws
 pub mod ReadLaws
 pub mod Largest
 pub mod WalkLaws
 pub mod FollowLaws
-pub mod SheetLaws
+pub mod ReleaseLaws
 pub mod GatherLaws
 pub mod AlikeLaws
-pub mod PlanLaws
-pub mod Cases
-pub mod Answered
+pub mod ArrayLaws
 -- The results: what an answer says of every schedule, and one answer for each input.
 pub mod Results
 pub mod Unique

@@ -8,7 +8,7 @@ use lib.Dec.{T, ltb→lt}
 use lib.IntN.{ℤ, pos, negsuc}
 use lib.Signed.{mag, leZ, ltZ, _≤ℤ_, _<ℤ_}
 use borrow.Author.Tests.{lt-ltb, le-ltb}
-use Rattle.chain.specs.Answer.{less}
+use Rattle.chain.specs.Calls.{less}
 
 pub less-kept : (limit figure : ℕ) → figure ≤ limit → less limit figure ≡ pos (limit - figure)
 less-kept limit zero h = ap pos (omega arith)

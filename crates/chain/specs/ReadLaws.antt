@@ -11,11 +11,11 @@ use lib.Seq.{getD-take, getD-drop}
 use Rattle.arith.specs.Whole.{gcd, up}
 use Rattle.bits.specs.Lists.{getD-listOf}
 use Rattle.theory.specs.declared.Task.{Task}
-use Rattle.theory.specs.Ranges.{maximum, maximum-least}
-use Rattle.theory.specs.Model.{none, period, release, rank}
-use Rattle.theory.specs.Chain.{nextRelease}
-use Rattle.chain.specs.Steps.{mostPeriod, tasksIn, rowsIn, greatestIn, pairBound, Row, Entry}
-use Rattle.chain.specs.GreatestLaws.{maximum-same}
+use Rattle.arith.specs.Ranges.{maximum}
+use Rattle.arith.specs.RangeLaws.{maximum-least, maximum-eq}
+use Rattle.theory.specs.Model.Schedule.{none, period, release, rank}
+use Rattle.theory.specs.Model.Chain.{nextRelease}
+use Rattle.chain.specs.Conditions.{mostPeriod, tasksIn, rowsIn, greatestIn, pairBound, RowIn, TaskIn}
 
 module _ (periods ranks : List ℕ) (i : ℕ) (known : i < 16) where
   task-in : getD (tasksIn periods ranks) i none ≡ record { period = getD periods i 0; budget = 0; rank = getD ranks i 0 }
@@ -31,18 +31,18 @@ module _ (periods ranks : List ℕ) (i : ℕ) (known : i < 16) where
   pub release-in : (k : ℕ) → release (tasksIn periods ranks) i k ≡ k * getD periods i 0
   release-in k = ap (λ T. k * T) period-in
 
-module _ {starts counts table : List ℕ} {i : ℕ} (row : Row starts counts table i) (k : ℕ) where
+module _ {starts counts table : List ℕ} {i : ℕ} (row : RowIn starts counts table i) (k : ℕ) where
   pub row-place : k % getD counts i 0 < getD counts i 0
   row-place = mod-lt k (row .some)
 
   pub row-most : rowsIn starts counts table i k ≤ mostPeriod
   row-most = row .response-most (k % getD counts i 0) row-place
 
-pub greatest-most : {starts counts table : List ℕ} {i : ℕ} → Row starts counts table i → greatestIn starts counts table i ≤ mostPeriod
+pub greatest-most : {starts counts table : List ℕ} {i : ℕ} → RowIn starts counts table i → greatestIn starts counts table i ≤ mostPeriod
 greatest-most {counts = counts} {i = i} row = maximum-least (getD counts i 0) _ mostPeriod (λ k l. row-most row k)
 
 -- The part of the table that is a row holds its responses.
-module _ {starts counts table : List ℕ} {i : ℕ} (row : Row starts counts table i) where
+module _ {starts counts table : List ℕ} {i : ℕ} (row : RowIn starts counts table i) where
   abbrev part : List ℕ
   part = take (getD starts i 0 + getD counts i 0 - getD starts i 0) (drop (getD starts i 0) table)
 
@@ -50,14 +50,14 @@ module _ {starts counts table : List ℕ} {i : ℕ} (row : Row starts counts tab
   part-length = simp (length-take, length-drop) (omega (arith, row .within))
 
   pub part-greatest : maximum (length part) (λ k. getD part k 0) ≡ greatestIn starts counts table i
-  part-greatest = ap (λ n. maximum n (λ k. getD part k 0)) part-length ∙ maximum-same (getD counts i 0) (λ k. getD part k 0) (rowsIn starts counts table i) entry
+  part-greatest = ap (λ n. maximum n (λ k. getD part k 0)) part-length ∙ maximum-eq (getD counts i 0) (λ k. getD part k 0) (rowsIn starts counts table i) entry
     where
       entry : (k : ℕ) → k < getD counts i 0 → getD part k 0 ≡ rowsIn starts counts table i k
       entry k l =
           getD-take (getD starts i 0 + getD counts i 0 - getD starts i 0) (drop (getD starts i 0) table) k 0 (omega arith)
           ∙ getD-drop (getD starts i 0) table k 0 ∙ ap (λ m. getD table (getD starts i 0 + m) 0) (sym (mod-eq-of-lt l))
 
-module _ {periods starts counts table : List ℕ} (ranks : List ℕ) {p c : ℕ} (ep : Entry periods starts counts table p) (ec : Entry periods starts counts table c) where
+module _ {periods starts counts table : List ℕ} (ranks : List ℕ) {p c : ℕ} (ep : TaskIn periods starts counts table p) (ec : TaskIn periods starts counts table c) where
   -- The next release after job k of p, by the arrays.
   pub next-in : (k : ℕ) → nextRelease (tasksIn periods ranks) (rowsIn starts counts table) p c (release (tasksIn periods ranks) p k)
       ≡ up (getD periods c 0) (cond (ltb (getD ranks p 0) (getD ranks c 0)) (k * getD periods p 0 + rowsIn starts counts table p k) (k * getD periods p 0))

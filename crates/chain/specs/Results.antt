@@ -7,25 +7,26 @@ use native.Mathlib.Omega.{arith}
 use lib.IntN.{ℤ, pos}
 use lib.Signed.{_≤ℤ_, _<ℤ_}
 use Rattle.theory.specs.declared.Task.{Task}
-use Rattle.theory.specs.Model.{period, release, Demands, Within, Run, Schedule}
-use Rattle.theory.specs.Responses.{full, response, hyperperiod}
-use Rattle.theory.specs.Repetition.{response-again}
-use Rattle.theory.specs.Chain.{Chain, delay, worst, bound, PathEnds, Rising}
-use Rattle.theory.specs.ChainLaws.{delay-again}
-use Rattle.theory.specs.Paths.{path-within, path-exists, path-exact}
-use Rattle.theory.specs.Demand3 as demand
-use Rattle.theory.specs.Demand3.{GreatestDelay}
+use Rattle.theory.specs.Model.Schedule.{period, release, Demands, Within, Run, Schedule}
+use Rattle.theory.specs.Model.Responses.{full, response, hyperperiod}
+use Rattle.theory.specs.Analysis.Repetition.{response-again}
+use Rattle.theory.specs.Model.Chain.{delay, worst, bound, PathEnds, Rising}
+use Rattle.theory.specs.Analysis.ChainLaws.{delay-again}
+use Rattle.theory.specs.Analysis.Paths.{path-within, path-exists, path-exact}
+use Rattle.theory.specs.Results.Demand3 as demand
+use Rattle.theory.specs.Results.Demand3.{GreatestDelay}
 use Rattle.sheet.specs.declared.Sheet.{Sheet}
-use Rattle.sheet.specs.Answers.{given}
+use Rattle.answers.specs.Answers.{given}
+use Rattle.answers.specs.AnswerLaws.{after-given}
+use Rattle.sheet.specs.Tasks.{tasksOf, chainOf, firstOf, restOf}
 use Rattle.schedule.specs.declared.answer.Totals.{Totals}
-use Rattle.schedule.specs.Answer.{tasksOf, responsesOf}
+use Rattle.schedule.specs.Calls.{responsesOf}
 use Rattle.chain.specs.declared.answer.Summary.{Summary}
-use Rattle.chain.specs.Answer.{chainOf, firstOf, restOf, defaultLimit, summaryOf, delayOf, worstOf, boundOf, marginOf, defaultMarginOf, figuresOf}
-use Rattle.chain.specs.Steps.{Taken}
+use Rattle.chain.specs.Calls.{defaultLimit, summaryOf, delayOf, worstOf, boundOf, marginOf, defaultMarginOf, figuresOf}
+use Rattle.chain.specs.Conditions.{TakenChain}
 use Rattle.chain.specs.MarginLaws.{kept-within, below-over}
-use Rattle.chain.specs.SheetLaws.{chain-known, job-release}
-use Rattle.chain.specs.Cases.{margin-asked}
-use Rattle.chain.specs.Answered.{after-given, delay-release, delay-given, worst-given, bound-given, margin-given}
+use Rattle.chain.specs.ReleaseLaws.{job-release}
+use Rattle.chain.specs.CallLaws.{margin-asked, delay-release, delay-given, worst-given, bound-given, margin-given}
 
 -- ---- the words
 
@@ -43,57 +44,51 @@ DelayAnswers s at room t = delayOf s at room ≡ given t
 abbrev pub MarginAnswers : Sheet → ℕ → ℕ → ℤ → Type 0
 MarginAnswers s limit room z = marginOf s limit room ≡ given z
 
--- The release of job k of the chain's first task.
-abbrev pub firstRelease : Sheet → ℕ → ℕ
-firstRelease s k = release (tasksOf s) (firstOf (chainOf s)) k
+-- The release of job k of a chain's first task.
+abbrev pub firstRelease : List Task → List ℕ → ℕ → ℕ
+firstRelease ts chain k = release ts (firstOf chain) k
 
--- In a run the path of a reading along the sheet's chain, from job k of its first task, ends at f.
-abbrev pub ChainPath : Sheet → Demands → Run → ℕ → ℕ → Type 0
-ChainPath s d run k f = PathEnds d run (firstOf (chainOf s)) (restOf (chainOf s)) k f
+-- In a run the path of a reading along a chain, from job k of its first task, ends at f.
+abbrev pub ChainPath : List ℕ → Demands → Run → ℕ → ℕ → Type 0
+ChainPath chain d run k f = PathEnds d run (firstOf chain) (restOf chain) k f
 
 -- That path exists, and ends no later than `ticks` after the job's release.
-pub record PathWithin (s : Sheet) (d : Demands) (run : Run) (k ticks : ℕ) : Type 0 where
-  pub exists : (f : ℕ) × ChainPath s d run k f
-  pub ends : (f : ℕ) → ChainPath s d run k f → f ≤ firstRelease s k + ticks
+pub record PathWithin (ts : List Task) (chain : List ℕ) (d : Demands) (run : Run) (k ticks : ℕ) : Type 0 where
+  pub exists : (f : ℕ) × ChainPath chain d run k f
+  pub ends : (f : ℕ) → ChainPath chain d run k f → f ≤ firstRelease ts chain k + ticks
 
--- Each task on the sheet's chain outranks the one before it.
-abbrev pub RanksRise : Sheet → Type 0
-RanksRise s = Rising (tasksOf s) (firstOf (chainOf s)) (restOf (chainOf s))
+-- Each task on a chain outranks the one before it.
+abbrev pub RanksRise : List Task → List ℕ → Type 0
+RanksRise ts chain = Rising ts (firstOf chain) (restOf chain)
 
--- ---- the steps
+-- ---- a chain
 
-path-later : {s : Sheet} {d : Demands} {run : Run} {k ticks more : ℕ} → ticks ≤ more → PathWithin s d run k ticks → PathWithin s d run k more
+path-later : {ts : List Task} {chain : List ℕ} {d : Demands} {run : Run} {k ticks more : ℕ} → ticks ≤ more → PathWithin ts chain d run k ticks → PathWithin ts chain d run k more
 path-later l x = record { exists = x .exists; ends = λ f path. omega (arith, x .ends f path) }
 
-module _ {s : Sheet} (taken : Taken s) where
-  abbrev ts : List Task
-  ts = tasksOf s
-
+module _ {ts : List Task} {chain : List ℕ} (taken : TakenChain ts chain) where
   abbrev p : ℕ
-  p = firstOf (chainOf s)
+  p = firstOf chain
 
   abbrev rest : List ℕ
-  rest = restOf (chainOf s)
+  rest = restOf chain
 
-  chain : Chain ts p rest
-  chain = chain-known (taken .sound)
-
-  path-delay : {d : Demands} → Within ts d → {run : Run} → Schedule ts d run → (k : ℕ) → PathWithin s d run k (delay ts (response ts) p rest (release ts p k))
+  path-delay : {d : Demands} → Within ts d → {run : Run} → Schedule ts d run → (k : ℕ) → PathWithin ts chain d run k (delay ts (response ts) p rest (release ts p k))
   path-delay within schedule k = record {
-    exists = path-exists (taken .accepted) schedule within p rest chain k;
-    ends = λ f path. path-within (taken .accepted) schedule within p rest chain k k f (le-refl _) path;
+    exists = path-exists (taken .tasks .accepted) schedule within p rest (taken .known) k;
+    ends = λ f path. path-within (taken .tasks .accepted) schedule within p rest (taken .known) k k f (le-refl _) path;
   }
 
-  path-worst : {d : Demands} → Within ts d → {run : Run} → Schedule ts d run → (k : ℕ) → PathWithin s d run k (worst ts (response ts) p rest)
+  path-worst : {d : Demands} → Within ts d → {run : Run} → Schedule ts d run → (k : ℕ) → PathWithin ts chain d run k (worst ts (response ts) p rest)
   path-worst {d} within {run} schedule k =
-      let x = demand.no-schedule-exceeds ts (taken .accepted) p rest chain d within run schedule k in record { exists = x .0; ends = x .1 }
+      let x = demand.no-schedule-exceeds ts (taken .tasks .accepted) p rest (taken .known) d within run schedule k in record { exists = x .0; ends = x .1 }
 
   -- Delays repeat with H.
   delay-turns : (r m : ℕ) → delay ts (response ts) p rest (r + m * hyperperiod ts) ≡ delay ts (response ts) p rest r
   delay-turns r zero = ap (delay ts (response ts) p rest) (omega arith)
   delay-turns r (suc m) =
       ap (delay ts (response ts) p rest) (omega arith)
-      ∙ delay-again (taken .accepted .proper) (response ts) (λ i k l. response-again (taken .accepted) i l k) p rest (r + m * hyperperiod ts) chain
+      ∙ delay-again (taken .tasks .accepted .proper) (response ts) (λ i k l. response-again (taken .tasks .accepted) i l k) p rest (r + m * hyperperiod ts) (taken .known)
       ∙ delay-turns r m
 
   delay-modulo : (r at : ℕ) → r % hyperperiod ts ≡ at → delay ts (response ts) p rest r ≡ delay ts (response ts) p rest at
@@ -107,9 +102,9 @@ module _ {s : Sheet} (taken : Taken s) where
 pub no-schedule-exceeds-worst :
     (s : Sheet) (room w r : ℕ) (answer : WorstAnswers s room w r)
     (d : Demands) (within : Within (tasksOf s) d) (run : Run) (schedule : Schedule (tasksOf s) d run) (k : ℕ)
-    → PathWithin s d run k w
+    → PathWithin (tasksOf s) (chainOf s) d run k w
 no-schedule-exceeds-worst s room w r answer d within run schedule k =
-    let g = worst-given s room answer in subst (PathWithin s d run k) (ap (λ f. f .ticks) (g .1)) (path-worst (g .0) within schedule k)
+    let g = worst-given s room answer in subst (PathWithin (tasksOf s) (chainOf s) d run k) (ap (λ f. f .ticks) (g .1)) (path-worst (g .0) within schedule k)
 
 -- The figure never exceeds what `bound` answers.
 pub worst-within-bound :
@@ -117,7 +112,7 @@ pub worst-within-bound :
     → w ≤ b
 worst-within-bound s room w r answer room′ b answer′ =
     let g = worst-given s room answer in
-    omega (arith, ap (λ f. f .ticks) (g .1), bound-given s room′ answer′ .1, demand.worst-within-bound (tasksOf s) (g .0 .accepted) (firstOf (chainOf s)) (restOf (chainOf s)) (chain (g .0)))
+    omega (arith, ap (λ f. f .ticks) (g .1), bound-given s room′ answer′ .1, demand.worst-within-bound (tasksOf s) (g .0 .tasks .accepted) (firstOf (chainOf s)) (restOf (chainOf s)) (g .0 .known))
 
 -- w is the greatest delay over all releases of the first task, not only those before H, and r the smallest release that gives it.
 pub worst-is-greatest :
@@ -126,19 +121,19 @@ pub worst-is-greatest :
 worst-is-greatest s room w r answer =
     let g = worst-given s room answer in
     subst (λ f. GreatestDelay (tasksOf s) (firstOf (chainOf s)) (restOf (chainOf s)) (f .ticks) (f .release)) (g .1)
-    (demand.worst-of-all (tasksOf s) (g .0 .accepted) (firstOf (chainOf s)) (restOf (chainOf s)) (chain (g .0)))
+    (demand.worst-of-all (tasksOf s) (g .0 .tasks .accepted) (firstOf (chainOf s)) (restOf (chainOf s)) (g .0 .known))
 
 -- Where ranks rise along the chain, the full-budget schedule reaches it: the path from the job released at r takes exactly w.
 pub worst-is-reached :
-    (s : Sheet) (room w r : ℕ) (answer : WorstAnswers s room w r) (rising : RanksRise s)
+    (s : Sheet) (room w r : ℕ) (answer : WorstAnswers s room w r) (rising : RanksRise (tasksOf s) (chainOf s))
     (run : Run) (schedule : Schedule (tasksOf s) (full (tasksOf s)) run)
-    → (k : ℕ) × (firstRelease s k ≡ r) × ChainPath s (full (tasksOf s)) run k (r + w)
+    → (k : ℕ) × (firstRelease (tasksOf s) (chainOf s) k ≡ r) × ChainPath (chainOf s) (full (tasksOf s)) run k (r + w)
 worst-is-reached s room w r answer rising run schedule =
     let g = worst-given s room answer in (
       r / period (tasksOf s) (firstOf (chainOf s)),
       worst-is-greatest s room w r answer .first-task,
-      subst (λ f. ChainPath s (full (tasksOf s)) run (f .release / period (tasksOf s) (firstOf (chainOf s))) (f .release + f .ticks)) (g .1)
-          (demand.worst-reached (tasksOf s) (g .0 .accepted) (firstOf (chainOf s)) (restOf (chainOf s)) (chain (g .0)) rising run schedule),
+      subst (λ f. ChainPath (chainOf s) (full (tasksOf s)) run (f .release / period (tasksOf s) (firstOf (chainOf s))) (f .release + f .ticks)) (g .1)
+          (demand.worst-reached (tasksOf s) (g .0 .tasks .accepted) (firstOf (chainOf s)) (restOf (chainOf s)) (g .0 .known) rising run schedule),
     )
 
 -- ---- `bound`
@@ -147,10 +142,10 @@ worst-is-reached s room w r answer rising run schedule =
 pub no-schedule-exceeds-bound :
     (s : Sheet) (room b : ℕ) (answer : BoundAnswers s room b)
     (d : Demands) (within : Within (tasksOf s) d) (run : Run) (schedule : Schedule (tasksOf s) d run) (k : ℕ)
-    → PathWithin s d run k b
+    → PathWithin (tasksOf s) (chainOf s) d run k b
 no-schedule-exceeds-bound s room b answer d within run schedule k =
     let g = bound-given s room answer in
-    path-later (omega (arith, g .1, demand.worst-within-bound (tasksOf s) (g .0 .accepted) (firstOf (chainOf s)) (restOf (chainOf s)) (chain (g .0))))
+    path-later (omega (arith, g .1, demand.worst-within-bound (tasksOf s) (g .0 .tasks .accepted) (firstOf (chainOf s)) (restOf (chainOf s)) (g .0 .known)))
     (path-worst (g .0) within schedule k)
 
 -- ---- `delay`
@@ -160,28 +155,28 @@ no-schedule-exceeds-bound s room b answer d within run schedule k =
 pub no-schedule-exceeds-delay :
     (s : Sheet) (at room t : ℕ) (answer : DelayAnswers s at room t)
     (d : Demands) (within : Within (tasksOf s) d) (run : Run) (schedule : Schedule (tasksOf s) d run)
-    (k : ℕ) (released : firstRelease s k % hyperperiod (tasksOf s) ≡ at)
-    → PathWithin s d run k t
+    (k : ℕ) (released : firstRelease (tasksOf s) (chainOf s) k % hyperperiod (tasksOf s) ≡ at)
+    → PathWithin (tasksOf s) (chainOf s) d run k t
 no-schedule-exceeds-delay s at room t answer d within run schedule k released =
     let g = delay-given s at room answer in
-    subst (PathWithin s d run k) (delay-modulo (g .0) (firstRelease s k) at released ∙ g .1) (path-delay (g .0) within schedule k)
+    subst (PathWithin (tasksOf s) (chainOf s) d run k) (delay-modulo (g .0) (firstRelease (tasksOf s) (chainOf s) k) at released ∙ g .1) (path-delay (g .0) within schedule k)
 
 -- There is such a job: the release is one of the first task's.
-pub delay-has-job : (s : Sheet) (at room t : ℕ) (answer : DelayAnswers s at room t) → (k : ℕ) × (firstRelease s k ≡ at)
+pub delay-has-job : (s : Sheet) (at room t : ℕ) (answer : DelayAnswers s at room t) → (k : ℕ) × (firstRelease (tasksOf s) (chainOf s) k ≡ at)
 delay-has-job s at room t answer =
     (at / period (tasksOf s) (firstOf (chainOf s)), job-release (tasksOf s) (firstOf (chainOf s)) at (delay-release s at room answer))
 
 -- Where ranks rise along the chain, the full-budget schedule's path from that job takes exactly t.
 pub delay-is-reached :
-    (s : Sheet) (at room t : ℕ) (answer : DelayAnswers s at room t) (rising : RanksRise s)
+    (s : Sheet) (at room t : ℕ) (answer : DelayAnswers s at room t) (rising : RanksRise (tasksOf s) (chainOf s))
     (run : Run) (schedule : Schedule (tasksOf s) (full (tasksOf s)) run)
-    (k : ℕ) (released : firstRelease s k % hyperperiod (tasksOf s) ≡ at)
-    → ChainPath s (full (tasksOf s)) run k (firstRelease s k + t)
+    (k : ℕ) (released : firstRelease (tasksOf s) (chainOf s) k % hyperperiod (tasksOf s) ≡ at)
+    → ChainPath (chainOf s) (full (tasksOf s)) run k (firstRelease (tasksOf s) (chainOf s) k + t)
 delay-is-reached s at room t answer rising run schedule k released =
     let g = delay-given s at room answer in
-    subst (λ x. ChainPath s (full (tasksOf s)) run k (firstRelease s k + x))
-    (delay-modulo (g .0) (firstRelease s k) at released ∙ g .1)
-    (path-exact (g .0 .accepted) schedule (firstOf (chainOf s)) (restOf (chainOf s)) (chain (g .0)) rising k)
+    subst (λ x. ChainPath (chainOf s) (full (tasksOf s)) run k (firstRelease (tasksOf s) (chainOf s) k + x))
+    (delay-modulo (g .0) (firstRelease (tasksOf s) (chainOf s) k) at released ∙ g .1)
+    (path-exact (g .0 .tasks .accepted) schedule (firstOf (chainOf s)) (restOf (chainOf s)) (g .0 .known) rising k)
 
 -- ---- `margin`
 
@@ -189,16 +184,16 @@ delay-is-reached s at room t answer rising run schedule k released =
 pub margin-keeps :
     (s : Sheet) (limit room : ℕ) (z : ℤ) (answer : MarginAnswers s limit room z) (kept : pos 0 ≤ℤ z)
     (d : Demands) (within : Within (tasksOf s) d) (run : Run) (schedule : Schedule (tasksOf s) d run) (k : ℕ)
-    → PathWithin s d run k limit
+    → PathWithin (tasksOf s) (chainOf s) d run k limit
 margin-keeps s limit room z answer kept d within run schedule k =
     let g = margin-given s limit room answer in
     path-later (kept-within limit (g .0) (subst (λ x. pos 0 ≤ℤ x) (sym (g .3)) kept)) (no-schedule-exceeds-worst s room (g .0) (g .1) (g .2) d within run schedule k)
 
 -- and if it is below zero and ranks rise along the chain, a path of the full-budget schedule exceeds it.
 pub margin-exceeded :
-    (s : Sheet) (limit room : ℕ) (z : ℤ) (answer : MarginAnswers s limit room z) (below : z <ℤ pos 0) (rising : RanksRise s)
+    (s : Sheet) (limit room : ℕ) (z : ℤ) (answer : MarginAnswers s limit room z) (below : z <ℤ pos 0) (rising : RanksRise (tasksOf s) (chainOf s))
     (run : Run) (schedule : Schedule (tasksOf s) (full (tasksOf s)) run)
-    → (k f : ℕ) × ChainPath s (full (tasksOf s)) run k f × (firstRelease s k + limit < f)
+    → (k f : ℕ) × ChainPath (chainOf s) (full (tasksOf s)) run k f × (firstRelease (tasksOf s) (chainOf s) k + limit < f)
 margin-exceeded s limit room z answer below rising run schedule =
     let g = margin-given s limit room answer in
     let x = worst-is-reached s room (g .0) (g .1) (g .2) rising run schedule in

@@ -1,13 +1,10 @@
--- One answer and one content of the table for each input of `delay`, `worst`, `bound`, `margin`, `default_margin`, `figures` and
--- `magnitude`.
+-- One input, one answer and one content of the table: two that meet a call's promise are equal.
 use mathlib.Core.Path.{_≡_, sym, ap, ap₂, _∙_}
 use mathlib.Core.List.{List}
 use Prim.Native.Nat.{ℕ}
-use lib.IntN.{ℤ, natAbs}
-use lib.ListN.{length}
 use Rattle.sheet.specs.declared.Sheet.{Sheet}
-use Rattle.sheet.specs.Unique.{refusal-unique, refusal-given}
-use Rattle.schedule.specs.Answer.{tasksOf, responsesOf, greatestAfter}
+use Rattle.answers.specs.declared.Refusal.{Refusal}
+use Rattle.answers.specs.AnswerLaws.{refused-given, refusal-unique}
 use Rattle.chain.specs.declared.answer.Delay.{Delay}
 use Rattle.chain.specs.declared.answer.Delay.the-variants.{Ticks as DelayTicks, No as NoDelay}
 use Rattle.chain.specs.declared.answer.Worst.{Worst}
@@ -19,68 +16,76 @@ use Rattle.chain.specs.declared.answer.Margin.the-variants.{Ticks as Mar
 use Rattle.chain.specs.declared.answer.Figures.{Figures}
 use Rattle.chain.specs.declared.answer.Figures.the-variants.{Of, No as NoFigures}
 use Rattle.chain.specs.declared.answer.TaskFigures.{TaskFigures}
-use Rattle.chain.specs.Answer.{delayOf, worstOf, boundOf, marginOf, defaultLimit, defaultMarginOf, figuresOf, toldDelay, toldWorst, toldBound, toldMargin, toldFigures}
-use Rattle.chain.specs.Cases.{Ended}
+use Rattle.chain.specs.Calls.{defaultLimit, toldDelay, toldWorst, toldBound, toldMargin, toldFigures}
+use Rattle.chain.specs.Promises.{DelayPromise, WorstPromise, BoundPromise, MarginPromise, DefaultMarginPromise, FiguresPromise, DelayRefusalPromise, WorstRefusalPromise, BoundRefusalPromise, MarginRefusalPromise, FiguresRefusalPromise}
 
 -- Document 01's answer tells the case of the enum.
 
 delay-told : (x y : Delay) → toldDelay x ≡ toldDelay y → x ≡ y
 delay-told (DelayTicks m) (DelayTicks n) e = cc
-delay-told (DelayTicks m) (NoDelay q) e = refusal-given q (sym e)
-delay-told (NoDelay r) (DelayTicks n) e = refusal-given r e
+delay-told (DelayTicks m) (NoDelay q) e = refused-given (sym e)
+delay-told (NoDelay r) (DelayTicks n) e = refused-given e
 delay-told (NoDelay r) (NoDelay q) e = ap NoDelay (refusal-unique r q e)
 
 worst-told : (x y : Worst) → toldWorst x ≡ toldWorst y → x ≡ y
 worst-told (Is f) (Is g) e = cc
-worst-told (Is f) (NoWorst q) e = refusal-given q (sym e)
-worst-told (NoWorst r) (Is g) e = refusal-given r e
+worst-told (Is f) (NoWorst q) e = refused-given (sym e)
+worst-told (NoWorst r) (Is g) e = refused-given e
 worst-told (NoWorst r) (NoWorst q) e = ap NoWorst (refusal-unique r q e)
 
 bound-told : (x y : Bound) → toldBound x ≡ toldBound y → x ≡ y
 bound-told (BoundTicks m) (BoundTicks n) e = cc
-bound-told (BoundTicks m) (NoBound q) e = refusal-given q (sym e)
-bound-told (NoBound r) (BoundTicks n) e = refusal-given r e
+bound-told (BoundTicks m) (NoBound q) e = refused-given (sym e)
+bound-told (NoBound r) (BoundTicks n) e = refused-given e
 bound-told (NoBound r) (NoBound q) e = ap NoBound (refusal-unique r q e)
 
 margin-told : (x y : Margin) → toldMargin x ≡ toldMargin y → x ≡ y
 margin-told (MarginTicks m) (MarginTicks n) e = cc
-margin-told (MarginTicks m) (NoMargin q) e = refusal-given q (sym e)
-margin-told (NoMargin r) (MarginTicks n) e = refusal-given r e
+margin-told (MarginTicks m) (NoMargin q) e = refused-given (sym e)
+margin-told (NoMargin r) (MarginTicks n) e = refused-given e
 margin-told (NoMargin r) (NoMargin q) e = ap NoMargin (refusal-unique r q e)
 
 figures-told : (x y : Figures) → toldFigures x ≡ toldFigures y → x ≡ y
 figures-told (Of m) (Of n) e = cc
-figures-told (Of m) (NoFigures q) e = refusal-given q (sym e)
-figures-told (NoFigures r) (Of n) e = refusal-given r e
+figures-told (Of m) (NoFigures q) e = refused-given (sym e)
+figures-told (NoFigures r) (Of n) e = refused-given e
 figures-told (NoFigures r) (NoFigures q) e = ap NoFigures (refusal-unique r q e)
 
--- Two answers and tables that meet a call's promise are equal.
+-- The calls.
 
 module _ (s : Sheet) (old table table′ : List ℕ) where
-  pub delay-unique : (release : ℕ) (x y : Delay) → Ended (delayOf s release (length old)) (tasksOf s) old (toldDelay x) table
-      → Ended (delayOf s release (length old)) (tasksOf s) old (toldDelay y) table′ → (x ≡ y) × (table ≡ table′)
+  pub delay-unique : (release : ℕ) (x y : Delay) → DelayPromise s release old x table → DelayPromise s release old y table′ → (x ≡ y) × (table ≡ table′)
   delay-unique release x y p q = (delay-told x y (p .0 ∙ sym (q .0)), p .1 ∙ sym (q .1))
 
-  pub worst-unique : (x y : Worst) → Ended (worstOf s (length old)) (tasksOf s) old (toldWorst x) table
-      → Ended (worstOf s (length old)) (tasksOf s) old (toldWorst y) table′ → (x ≡ y) × (table ≡ table′)
+  pub worst-unique : (x y : Worst) → WorstPromise s old x table → WorstPromise s old y table′ → (x ≡ y) × (table ≡ table′)
   worst-unique x y p q = (worst-told x y (p .0 ∙ sym (q .0)), p .1 ∙ sym (q .1))
 
-  pub bound-unique : (x y : Bound) → Ended (boundOf s (length old)) (tasksOf s) old (toldBound x) table
-      → Ended (boundOf s (length old)) (tasksOf s) old (toldBound y) table′ → (x ≡ y) × (table ≡ table′)
+  pub bound-unique : (x y : Bound) → BoundPromise s old x table → BoundPromise s old y table′ → (x ≡ y) × (table ≡ table′)
   bound-unique x y p q = (bound-told x y (p .0 ∙ sym (q .0)), p .1 ∙ sym (q .1))
 
-  pub margin-unique : (limit : ℕ) (x y : Margin) → Ended (marginOf s limit (length old)) (tasksOf s) old (toldMargin x) table
-      → Ended (marginOf s limit (length old)) (tasksOf s) old (toldMargin y) table′ → (x ≡ y) × (table ≡ table′)
+  pub margin-unique : (limit : ℕ) (x y : Margin) → MarginPromise s limit old x table → MarginPromise s limit old y table′ → (x ≡ y) × (table ≡ table′)
   margin-unique limit x y p q = (margin-told x y (p .0 ∙ sym (q .0)), p .1 ∙ sym (q .1))
 
-  pub default-margin-unique : (x y : Margin) → Ended (defaultMarginOf s (length old)) (tasksOf s) old (toldMargin x) table
-      → Ended (defaultMarginOf s (length old)) (tasksOf s) old (toldMargin y) table′ → (x ≡ y) × (table ≡ table′)
+  pub default-margin-unique : (x y : Margin) → DefaultMarginPromise s old x table → DefaultMarginPromise s old y table′ → (x ≡ y) × (table ≡ table′)
   default-margin-unique = margin-unique defaultLimit
 
-  pub figures-unique : (x y : TaskFigures) → Ended (figuresOf s (length old)) (tasksOf s) old (toldFigures (x .answer)) table → x .greatest ≡ greatestAfter (responsesOf s (length old)) s
-      → Ended (figuresOf s (length old)) (tasksOf s) old (toldFigures (y .answer)) table′ → y .greatest ≡ greatestAfter (responsesOf s (length old)) s → (x ≡ y) × (table ≡ table′)
-  figures-unique x y p h q g =
-      (ap₂ (λ a m. record { answer = a; greatest = m }) (figures-told (x .answer) (y .answer) (p .0 ∙ sym (q .0))) (h ∙ sym g), p .1 ∙ sym (q .1))
+  pub figures-unique : (x y : TaskFigures) → FiguresPromise s old x table → FiguresPromise s old y table′ → (x ≡ y) × (table ≡ table′)
+  figures-unique x y p q = (
+    ap₂ (λ a m. record { answer = a; greatest = m }) (figures-told (x .answer) (y .answer) (p .0 .0 ∙ sym (q .0 .0))) (p .1 ∙ sym (q .1)),
+    p .0 .1 ∙ sym (q .0 .1),
+  )
 
-pub magnitude-unique : (z : ℤ) (x y : ℕ) → x ≡ natAbs z → y ≡ natAbs z → x ≡ y
-magnitude-unique z x y p q = p ∙ sym q
+pub delay-refusal-unique : (answer : Delay) (x y : Refusal) → DelayRefusalPromise answer x → DelayRefusalPromise answer y → x ≡ y
+delay-refusal-unique answer x y p q = p ∙ sym q
+
+pub worst-refusal-unique : (answer : Worst) (x y : Refusal) → WorstRefusalPromise answer x → WorstRefusalPromise answer y → x ≡ y
+worst-refusal-unique answer x y p q = p ∙ sym q
+
+pub bound-refusal-unique : (answer : Bound) (x y : Refusal) → BoundRefusalPromise answer x → BoundRefusalPromise answer y → x ≡ y
+bound-refusal-unique answer x y p q = p ∙ sym q
+
+pub margin-refusal-unique : (answer : Margin) (x y : Refusal) → MarginRefusalPromise answer x → MarginRefusalPromise answer y → x ≡ y
+margin-refusal-unique answer x y p q = p ∙ sym q
+
+pub figures-refusal-unique : (answer : Figures) (x y : Refusal) → FiguresRefusalPromise answer x → FiguresRefusalPromise answer y → x ≡ y
+figures-refusal-unique answer x y p q = p ∙ sym q

@@ -8,13 +8,13 @@ use native.Mathlib.Omega.{arith}
 use lib.ListN.{length, getD, take, drop, length-drop}
 use lib.Seq.{take-all, getD-drop}
 use Rattle.theory.specs.declared.Task.{Task}
-use Rattle.theory.specs.Model.{period, release}
+use Rattle.theory.specs.Model.Schedule.{period, release}
 use borrow.Author.Tests.{eq-eqb, ne-eqb}
-use Rattle.theory.specs.Chain.{Table, nextRelease, delay, bound}
-use Rattle.theory.specs.ChainLaws.{next-later}
+use Rattle.theory.specs.Model.Chain.{Table, nextRelease, delay, bound}
+use Rattle.theory.specs.Analysis.ChainLaws.{next-later}
+use Rattle.sheet.specs.Tasks.{firstOf, restOf}
 use Rattle.chain.specs.declared.answer.HandOver.{HandOver}
-use Rattle.chain.specs.Answer.{firstOf, restOf}
-use Rattle.chain.specs.Steps.{mostWait, tasksIn, rowsIn, greatestIn, delayIn, pairBound, onward, ahead, HandedOver, Opened, Entry, Path}
+use Rattle.chain.specs.Conditions.{mostWait, tasksIn, rowsIn, greatestIn, delayIn, pairBound, onward, ahead, HandedOver, FirstHandedOver, TaskIn, ChainIn}
 use Rattle.chain.specs.ReadLaws.{period-in, row-most, greatest-most}
 use Rattle.chain.specs.Largest.{along-entries, Small, SmallTask, next-most, delay-most, bound-most}
 
@@ -54,27 +54,27 @@ bound-more ts R (p ∷ c ∷ rest) l = refl
 -- ---- by the arrays
 
 module _ {periods starts counts table : List ℕ} (ranks : List ℕ) where
-  pub entry-small : (i : ℕ) → Entry periods starts counts table i → Small (tasksIn periods ranks) (rowsIn starts counts table) i
+  pub entry-small : (i : ℕ) → TaskIn periods starts counts table i → Small (tasksIn periods ranks) (rowsIn starts counts table) i
   entry-small i e = record {
     period-positive = rw (period-in periods ranks i (e .row .known)) (e .period-positive);
     period-most = rw (period-in periods ranks i (e .row .known)) (e .period-most);
     response-most = row-most (e .row);
   }
 
-  pub entry-small-task : (i : ℕ) → Entry periods starts counts table i → SmallTask (tasksIn periods ranks) (greatestIn starts counts table) i
+  pub entry-small-task : (i : ℕ) → TaskIn periods starts counts table i → SmallTask (tasksIn periods ranks) (greatestIn starts counts table) i
   entry-small-task i e = record {
     period-positive = entry-small i e .period-positive;
     period-most = entry-small i e .period-most;
     response-most = greatest-most (e .row);
   }
 
-  pub path-rest : {chain : List ℕ} → Path periods starts counts table chain → 1 < length chain → Path periods starts counts table (restOf chain)
+  pub path-rest : {chain : List ℕ} → ChainIn periods starts counts table chain → 1 < length chain → ChainIn periods starts counts table (restOf chain)
   path-rest {chain} path l = record {
     some = omega (arith, length-drop 1 chain);
     entry = λ j m. rw (getD-drop 1 chain j 0) (path .entry (1 + j) (omega (arith, length-drop 1 chain)));
   }
 
-  pub path-delay : {chain : List ℕ} → Path periods starts counts table chain → (r : ℕ)
+  pub path-delay : {chain : List ℕ} → ChainIn periods starts counts table chain → (r : ℕ)
       → delay (tasksIn periods ranks) (rowsIn starts counts table) (firstOf chain) (restOf chain) r ≤ mostWait * length chain
   path-delay {chain} path r =
       omega (
@@ -85,7 +85,7 @@ module _ {periods starts counts table : List ℕ} (ranks : List ℕ) where
             (along-entries (Small (tasksIn periods ranks) (rowsIn starts counts table)) chain (path .some) (λ j m. entry-small (getD chain j 0) (path .entry j m))),
       )
 
-  pub path-bound : {chain : List ℕ} → Path periods starts counts table chain
+  pub path-bound : {chain : List ℕ} → ChainIn periods starts counts table chain
       → bound (tasksIn periods ranks) (greatestIn starts counts table) (firstOf chain) (restOf chain) ≤ mostWait * length chain
   path-bound {chain} path =
       omega (
@@ -98,18 +98,18 @@ module _ {periods starts counts table : List ℕ} (ranks : List ℕ) where
 
 -- ---- the first hand-over
 
-module _ {periods starts counts table : List ℕ} (ranks : List ℕ) {chain : List ℕ} (path : Path periods starts counts table chain) where
+module _ {periods starts counts table : List ℕ} (ranks : List ℕ) {chain : List ℕ} (path : ChainIn periods starts counts table chain) where
   abbrev ts : List Task
   ts = tasksIn periods ranks
 
   -- A chain of one task: there is none,
-  pub opened-one : (k : ℕ) → length chain ≡ 1 → Opened periods ranks starts counts table chain (ahead chain) k (record { job = k; wait = 0 })
-  opened-one k e = rw (eq-eqb (length chain) 1 e) (record { delay-is = omega arith; meets = omega arith; near = omega arith })
+  pub handed-one : (k : ℕ) → length chain ≡ 1 → FirstHandedOver periods ranks starts counts table chain (ahead chain) k (record { job = k; wait = 0 })
+  handed-one k e = rw (eq-eqb (length chain) 1 e) (record { delay-is = omega arith; meets = omega arith; near = omega arith })
 
   -- a longer one: it leaves the first task behind.
-  pub opened-more : (k : ℕ) (next : HandOver) → 1 < length chain → HandedOver ts (rowsIn starts counts table) (firstOf chain) (getD chain 1 0) k next
-      → Opened periods ranks starts counts table chain (ahead chain) k next
-  opened-more k next more h = rw (ne-eqb (length chain) 1 (λ e. omega arith)) (record {
+  pub handed-more : (k : ℕ) (next : HandOver) → 1 < length chain → HandedOver ts (rowsIn starts counts table) (firstOf chain) (getD chain 1 0) k next
+      → FirstHandedOver periods ranks starts counts table chain (ahead chain) k next
+  handed-more k next more h = rw (ne-eqb (length chain) 1 (λ e. omega arith)) (record {
     delay-is = delay-more ts (rowsIn starts counts table) chain k next more h;
     meets = omega (arith, later, h .wait-is, h .job-is, ap (λ c. release ts c (next .job)) (getD-drop 1 chain 0 0));
     near = omega (arith, later, h .wait-is, next-most ts (rowsIn starts counts table) (firstOf chain) (getD chain 1 0) (release ts (firstOf chain) k) (entry-small ranks _ (path .entry 0 (path .some))) consumer);
@@ -122,10 +122,10 @@ module _ {periods starts counts table : List ℕ} (ranks : List ℕ) {chain : Li
       later = next-later ts (rowsIn starts counts table) (firstOf chain) (getD chain 1 0) (release ts (firstOf chain) k) (consumer .period-positive)
 
   -- What is left is a chain that can be walked, and is shorter where it was long.
-  pub ahead-path : Path periods starts counts table (ahead chain)
+  pub ahead-path : ChainIn periods starts counts table (ahead chain)
   ahead-path = go (ℕ-discrete (length chain) 1)
     where
-      go : Dec (length chain ≡ 1) → Path periods starts counts table (ahead chain)
+      go : Dec (length chain ≡ 1) → ChainIn periods starts counts table (ahead chain)
       go (yes e) = rw (eq-eqb (length chain) 1 e) path
       go (no n) = rw (ne-eqb (length chain) 1 n) (path-rest ranks path (omega (arith, path .some)))
 
@@ -137,10 +137,10 @@ module _ {periods starts counts table : List ℕ} (ranks : List ℕ) {chain : Li
       go (no n) = rw (ne-eqb (length chain) 1 n) (path .some, omega (arith, length-drop 1 chain))
 
 -- Readings that are handed over to one job end together, so the earlier one has the longer delay.
-pub opened-together : {periods ranks starts counts table chain rest : List ℕ} {j k : ℕ} {x y : HandOver} → k ≤ j
-    → Opened periods ranks starts counts table chain rest k x → Opened periods ranks starts counts table chain rest j y → x .job ≡ y .job
+pub handed-together : {periods ranks starts counts table chain rest : List ℕ} {j k : ℕ} {x y : HandOver} → k ≤ j
+    → FirstHandedOver periods ranks starts counts table chain rest k x → FirstHandedOver periods ranks starts counts table chain rest j y → x .job ≡ y .job
     → delayIn periods ranks starts counts table chain j ≤ delayIn periods ranks starts counts table chain k
-opened-together {periods} {ranks} {starts} {counts} {table} {chain} {rest} {j} {k} l p q e = omega (
+handed-together {periods} {ranks} {starts} {counts} {table} {chain} {rest} {j} {k} l p q e = omega (
   arith,
   p .delay-is,
   q .delay-is,

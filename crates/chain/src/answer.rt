@@ -1,6 +1,6 @@
 // What the calls and the functions under them answer.
+use answers::Refusal;
 use schedule::Totals;
-use sheet::Refusal;
 
 // The ticks from the release of the chain's first job to the finish of its last.
 pub enum Delay {

@@ -1,6 +1,6 @@
 // The chain: its delay at a release, its worst figure, its quick bound and its margin, or the first refusal. Each call works the
 // responses out afresh and leaves them in the lent table, from which a walk along the chain reads them. What is answered and left
-// in the table is defined in specs/Answer.antt; what that says of every schedule stands in specs/Results.antt.
+// in the table is defined in specs/Calls.antt; what that says of every schedule stands in specs/Results.antt.
 mod answer;
 
 pub use answer::Bound;
@@ -12,24 +12,24 @@ pub use answer::Margin;
 pub use answer::Summary;
 pub use answer::TaskFigures;
 pub use answer::Worst;
+use answers::Refusal;
 use schedule::Responses;
 use schedule::Sizes;
-use sheet::Refusal;
 use sheet::Sheet;
 ghost use mathlib.Core.Path.{_≡_};
-ghost use lib.IntN.{natAbs};
 ghost use Prim.Native.Nat.{_+_, _*_, _≤_, _<_};
 ghost use lib.ListN.{length, getD};
-ghost use Rattle.theory.specs.Ranges.{maximum};
-ghost use Rattle.theory.specs.Responses.{hyperperiod, jobs};
-ghost use Rattle.theory.specs.Model.{period, release};
-ghost use Rattle.theory.specs.Chain.{bound};
+ghost use Rattle.theory.specs.Model.Responses.{hyperperiod, jobs};
+ghost use Rattle.theory.specs.Model.Schedule.{period, release};
+ghost use Rattle.theory.specs.Model.Chain.{bound};
 ghost use Rattle.sheet.specs.Sound.{Sound};
-ghost use Rattle.schedule.specs.Answer.{mostTicks, tasksOf, responsesOf, greatestAfter};
-ghost use Rattle.schedule.specs.Steps.{refusalOf};
-ghost use Rattle.chain.specs.Answer.{chainOf, firstOf, restOf, delayAt, figureOf, quickBound, less, mostLimit, delayOf, worstOf, boundOf, marginOf, defaultMarginOf, figuresOf, leaves, toldDelay, toldWorst, toldBound, toldMargin, toldFigures};
-ghost use Rattle.schedule.specs.Steps.{Holds};
-ghost use Rattle.chain.specs.Steps.{mostWait, mostFigure, mostRelease, Taken, tasksIn, rowsIn, greatestIn, delayIn, onward, ahead, HandedOver, Opened, Row, Entry, Path, Greatest, pairBound, Gathered, responsesRefusal, worstRefusal};
+ghost use Rattle.sheet.specs.Tasks.{tasksOf, chainOf, firstOf, restOf};
+ghost use Rattle.schedule.specs.Calls.{mostTicks};
+ghost use Rattle.chain.specs.Calls.{delayAt, figureOf, quickBound, less, mostLimit};
+ghost use Rattle.chain.specs.Promises.{DelayPromise, WorstPromise, BoundPromise, MarginPromise, DefaultMarginPromise, FiguresPromise, DelayRefusalPromise, WorstRefusalPromise, BoundRefusalPromise, MarginRefusalPromise, FiguresRefusalPromise};
+ghost use Rattle.schedule.specs.Taken.{Taken};
+ghost use Rattle.schedule.specs.Taken.{Holds};
+ghost use Rattle.chain.specs.Conditions.{mostWait, mostFigure, mostRelease, tasksIn, rowsIn, greatestIn, delayIn, onward, ahead, HandedOver, FirstHandedOver, RowIn, TaskIn, ChainIn, Greatest, pairBound, Gathered};
 
 // "margin limit 0 to 4,000,000"
 const MOST_LIMIT: u32 = 4000000;
@@ -37,7 +37,7 @@ const MOST_LIMIT: u32 = 4000000;
 const DEFAULT_LIMIT: u32 = 1000;
 
 // Of each task the period, the rank, where its row starts and how many jobs it has.
-fn gather(
+fn gather_tasks(
     s: Sheet,
     h: u32,
     periods: &mut [u32; 16],
@@ -45,10 +45,10 @@ fn gather(
     starts: &mut [u32; 16],
     counts: &mut [u32; 16],
 )
-    requires { ⌜ Taken s ⌝ }
+    requires { ⌜ Sound s × Taken (tasksOf s) ⌝ }
     requires { ⌜ h ≡ hyperperiod (tasksOf s) ⌝ }
     requires { ⌜ (length (now periods) ≡ 16) × (length (now ranks) ≡ 16) × (length (now starts) ≡ 16) × (length (now counts) ≡ 16) ⌝ }
-    ensures { λ _. ⌜ Gathered (tasksOf s) (s .count) (now (periods .exit)) (now (ranks .exit)) (now (starts .exit)) (now (counts .exit)) ⌝ }
+    ensures { λ _. ⌜ Gathered (tasksOf s) (length (tasksOf s)) (now (periods .exit)) (now (ranks .exit)) (now (starts .exit)) (now (counts .exit)) ⌝ }
 {
     let n = s.count as usize;
     let mut from = 0u32;
@@ -67,7 +67,7 @@ fn gather(
 
 // The response of job k of task i; "a job released at or after H has the response of the job released at its release modulo H".
 fn response_of(i: usize, k: u32, starts: &[u32; 16], counts: &[u32; 16], table: &[u32]) -> u32
-    requires { ⌜ Row (now starts) (now counts) (now table) i ⌝ }
+    requires { ⌜ RowIn (now starts) (now counts) (now table) i ⌝ }
     ensures { λ r. ⌜ r ≡ rowsIn (now (starts .entry)) (now (counts .entry)) (now (table .entry)) i k ⌝ }
 {
     let count = counts[i];
@@ -90,8 +90,8 @@ fn hand_over(
     counts: &[u32; 16],
     table: &[u32],
 ) -> HandOver
-    requires { ⌜ Entry (now periods) (now starts) (now counts) (now table) p ⌝ }
-    requires { ⌜ Entry (now periods) (now starts) (now counts) (now table) c ⌝ }
+    requires { ⌜ TaskIn (now periods) (now starts) (now counts) (now table) p ⌝ }
+    requires { ⌜ TaskIn (now periods) (now starts) (now counts) (now table) c ⌝ }
     requires { ⌜ release (tasksIn (now periods) (now ranks)) p k ≤ mostRelease ⌝ }
     ensures { λ r. ⌜ HandedOver (tasksIn (now (periods .entry)) (now (ranks .entry))) (rowsIn (now (starts .entry)) (now (counts .entry)) (now (table .entry))) p c k r ⌝ }
 {
@@ -117,7 +117,7 @@ fn walk(
     counts: &[u32; 16],
     table: &[u32],
 ) -> u32
-    requires { ⌜ Path (now periods) (now starts) (now counts) (now table) (now chain) ⌝ }
+    requires { ⌜ ChainIn (now periods) (now starts) (now counts) (now table) (now chain) ⌝ }
     requires { ⌜ release (tasksIn (now periods) (now ranks)) (firstOf (now chain)) k + mostWait * length (now chain) ≤ mostRelease + mostWait ⌝ }
     ensures { λ r. ⌜ r ≡ delayIn (now (periods .entry)) (now (ranks .entry)) (now (starts .entry)) (now (counts .entry)) (now (table .entry)) (now (chain .entry)) k ⌝ }
 {
@@ -141,7 +141,7 @@ fn onward(chain: &[u8]) -> usize
 }
 
 // The first hand-over of the reading of job k; on a chain of one task the reading stays where it is.
-fn opening(
+fn first_hand_over(
     chain: &[u8],
     k: u32,
     periods: &[u32; 16],
@@ -150,9 +150,9 @@ fn opening(
     counts: &[u32; 16],
     table: &[u32],
 ) -> HandOver
-    requires { ⌜ Path (now periods) (now starts) (now counts) (now table) (now chain) ⌝ }
+    requires { ⌜ ChainIn (now periods) (now starts) (now counts) (now table) (now chain) ⌝ }
     requires { ⌜ release (tasksIn (now periods) (now ranks)) (firstOf (now chain)) k ≤ mostRelease ⌝ }
-    ensures { λ r. ⌜ Opened (now (periods .entry)) (now (ranks .entry)) (now (starts .entry)) (now (counts .entry)) (now (table .entry)) (now (chain .entry)) (ahead (now (chain .entry))) k r ⌝ }
+    ensures { λ r. ⌜ FirstHandedOver (now (periods .entry)) (now (ranks .entry)) (now (starts .entry)) (now (counts .entry)) (now (table .entry)) (now (chain .entry)) (ahead (now (chain .entry))) k r ⌝ }
 {
     let p = chain[0] as usize;
     if chain.len() == 1 {
@@ -172,7 +172,7 @@ fn worst_along(
     counts: &[u32; 16],
     table: &[u32],
 ) -> Figure
-    requires { ⌜ Path (now periods) (now starts) (now counts) (now table) (now chain) ⌝ }
+    requires { ⌜ ChainIn (now periods) (now starts) (now counts) (now table) (now chain) ⌝ }
     requires { ⌜ (length (now chain) ≤ 16) × (getD (now counts) (firstOf (now chain)) 0 * getD (now periods) (firstOf (now chain)) 0 ≤ mostTicks) ⌝ }
     ensures { λ r. ⌜ Greatest (getD (now (counts .entry)) (firstOf (now (chain .entry))) 0) (getD (now (periods .entry)) (firstOf (now (chain .entry))) 0) (delayIn (now (periods .entry)) (now (ranks .entry)) (now (starts .entry)) (now (counts .entry)) (now (table .entry)) (now (chain .entry))) r ⌝ }
 {
@@ -184,7 +184,7 @@ fn worst_along(
     let mut followed = 0u32;
     let mut k = 0u32;
     while k < n {
-        let next = opening(chain, k, periods, ranks, starts, counts, table);
+        let next = first_hand_over(chain, k, periods, ranks, starts, counts, table);
         if next.job + 1 != followed {
             followed = next.job + 1;
             let delay = next.wait
@@ -210,12 +210,12 @@ fn worst_along(
 
 // R of task i.
 fn task_response(i: usize, starts: &[u32; 16], counts: &[u32; 16], table: &[u32]) -> u32
-    requires { ⌜ Row (now starts) (now counts) (now table) i ⌝ }
+    requires { ⌜ RowIn (now starts) (now counts) (now table) i ⌝ }
     ensures { λ r. ⌜ r ≡ greatestIn (now (starts .entry)) (now (counts .entry)) (now (table .entry)) i ⌝ }
 {
     let from = starts[i] as usize;
     let end = from + counts[i] as usize;
-    schedule::greatest(&table[from..end])
+    arith::greatest(&table[from..end])
 }
 
 // What a pair of neighbours adds to the quick bound.
@@ -228,8 +228,8 @@ fn pair_bound(
     counts: &[u32; 16],
     table: &[u32],
 ) -> u32
-    requires { ⌜ Entry (now periods) (now starts) (now counts) (now table) p ⌝ }
-    requires { ⌜ Entry (now periods) (now starts) (now counts) (now table) c ⌝ }
+    requires { ⌜ TaskIn (now periods) (now starts) (now counts) (now table) p ⌝ }
+    requires { ⌜ TaskIn (now periods) (now starts) (now counts) (now table) c ⌝ }
     ensures { λ r. ⌜ r ≡ pairBound (tasksIn (now (periods .entry)) (now (ranks .entry))) (greatestIn (now (starts .entry)) (now (counts .entry)) (now (table .entry))) p c ⌝ }
 {
     let g = arith::gcd(periods[p], periods[c]);
@@ -249,7 +249,7 @@ fn bound_along(
     counts: &[u32; 16],
     table: &[u32],
 ) -> u32
-    requires { ⌜ Path (now periods) (now starts) (now counts) (now table) (now chain) ⌝ }
+    requires { ⌜ ChainIn (now periods) (now starts) (now counts) (now table) (now chain) ⌝ }
     requires { ⌜ length (now chain) ≤ 16 ⌝ }
     ensures { λ r. ⌜ r ≡ bound (tasksIn (now (periods .entry)) (now (ranks .entry))) (greatestIn (now (starts .entry)) (now (counts .entry)) (now (table .entry))) (firstOf (now (chain .entry))) (restOf (now (chain .entry))) ⌝ }
 {
@@ -264,7 +264,7 @@ fn bound_along(
 
 // The delay of the sheet's chain at job k of its first task.
 fn delay_in(s: Sheet, h: u32, k: u32, table: &[u32]) -> u32
-    requires { ⌜ Taken s ⌝ }
+    requires { ⌜ Sound s × Taken (tasksOf s) ⌝ }
     requires { ⌜ h ≡ hyperperiod (tasksOf s) ⌝ }
     requires { ⌜ Holds (tasksOf s) (now table) ⌝ }
     requires { ⌜ k < jobs (tasksOf s) (firstOf (chainOf s)) ⌝ }
@@ -274,7 +274,7 @@ fn delay_in(s: Sheet, h: u32, k: u32, table: &[u32]) -> u32
     let mut ranks = [0u8; 16];
     let mut starts = [0u32; 16];
     let mut counts = [0u32; 16];
-    gather(s, h, &mut periods, &mut ranks, &mut starts, &mut counts);
+    gather_tasks(s, h, &mut periods, &mut ranks, &mut starts, &mut counts);
     let chain = s.chain;
     let m = s.length as usize;
     walk(&chain[..m], k, &periods, &ranks, &starts, &counts, table)
@@ -282,7 +282,7 @@ fn delay_in(s: Sheet, h: u32, k: u32, table: &[u32]) -> u32
 
 // The worst figure of the sheet's chain.
 fn worst_in(s: Sheet, h: u32, table: &[u32]) -> Figure
-    requires { ⌜ Taken s ⌝ }
+    requires { ⌜ Sound s × Taken (tasksOf s) ⌝ }
     requires { ⌜ h ≡ hyperperiod (tasksOf s) ⌝ }
     requires { ⌜ Holds (tasksOf s) (now table) ⌝ }
     ensures { λ r. ⌜ r ≡ figureOf (tasksOf s) (chainOf s) ⌝ }
@@ -291,7 +291,7 @@ fn worst_in(s: Sheet, h: u32, table: &[u32]) -> Figure
     let mut ranks = [0u8; 16];
     let mut starts = [0u32; 16];
     let mut counts = [0u32; 16];
-    gather(s, h, &mut periods, &mut ranks, &mut starts, &mut counts);
+    gather_tasks(s, h, &mut periods, &mut ranks, &mut starts, &mut counts);
     let chain = s.chain;
     let m = s.length as usize;
     worst_along(&chain[..m], &periods, &ranks, &starts, &counts, table)
@@ -299,7 +299,7 @@ fn worst_in(s: Sheet, h: u32, table: &[u32]) -> Figure
 
 // The quick bound of the sheet's chain.
 fn bound_in(s: Sheet, h: u32, table: &[u32]) -> u32
-    requires { ⌜ Taken s ⌝ }
+    requires { ⌜ Sound s × Taken (tasksOf s) ⌝ }
     requires { ⌜ h ≡ hyperperiod (tasksOf s) ⌝ }
     requires { ⌜ Holds (tasksOf s) (now table) ⌝ }
     ensures { λ r. ⌜ r ≡ quickBound (tasksOf s) (chainOf s) ⌝ }
@@ -308,7 +308,7 @@ fn bound_in(s: Sheet, h: u32, table: &[u32]) -> u32
     let mut ranks = [0u8; 16];
     let mut starts = [0u32; 16];
     let mut counts = [0u32; 16];
-    gather(s, h, &mut periods, &mut ranks, &mut starts, &mut counts);
+    gather_tasks(s, h, &mut periods, &mut ranks, &mut starts, &mut counts);
     let chain = s.chain;
     let m = s.length as usize;
     bound_along(&chain[..m], &periods, &ranks, &starts, &counts, table)
@@ -332,27 +332,18 @@ fn less_of(limit: u32, figure: u32) -> i32
     limit as i32 - figure as i32
 }
 
-// The refusals in answers that hold one.
-fn sizes_refusal(z: Sizes) -> Refusal
-    ensures { λ r. ⌜ r ≡ refusalOf z ⌝ }
+// The refusal in an answer that gives nothing else. Number 0, which no refusal has, stands for none.
+pub fn delay_refusal(d: Delay) -> Refusal
+    ensures { λ r. ⌜ DelayRefusalPromise d r ⌝ }
 {
-    let Sizes::No(r) = z else {
+    let Delay::No(r) = d else {
         return Refusal::Number(0);
     };
     r
 }
 
-fn responses_refusal(a: Responses) -> Refusal
-    ensures { λ r. ⌜ r ≡ responsesRefusal a ⌝ }
-{
-    let Responses::No(r) = a else {
-        return Refusal::Number(0);
-    };
-    r
-}
-
-fn worst_refusal(w: Worst) -> Refusal
-    ensures { λ r. ⌜ r ≡ worstRefusal w ⌝ }
+pub fn worst_refusal(w: Worst) -> Refusal
+    ensures { λ r. ⌜ WorstRefusalPromise w r ⌝ }
 {
     let Worst::No(r) = w else {
         return Refusal::Number(0);
@@ -360,14 +351,40 @@ fn worst_refusal(w: Worst) -> Refusal
     r
 }
 
+pub fn bound_refusal(b: Bound) -> Refusal
+    ensures { λ r. ⌜ BoundRefusalPromise b r ⌝ }
+{
+    let Bound::No(r) = b else {
+        return Refusal::Number(0);
+    };
+    r
+}
+
+pub fn margin_refusal(m: Margin) -> Refusal
+    ensures { λ r. ⌜ MarginRefusalPromise m r ⌝ }
+{
+    let Margin::No(r) = m else {
+        return Refusal::Number(0);
+    };
+    r
+}
+
+pub fn figures_refusal(f: Figures) -> Refusal
+    ensures { λ r. ⌜ FiguresRefusalPromise f r ⌝ }
+{
+    let Figures::No(r) = f else {
+        return Refusal::Number(0);
+    };
+    r
+}
+
 // The delay of the sheet's chain at a release of its first task.
 pub fn delay(s: Sheet, release: u32, table: &mut [u32]) -> Delay
-    ensures { λ r. ⌜ toldDelay r ≡ delayOf s release (length (now (table .entry))) ⌝ }
-    ensures { λ _. ⌜ now (table .exit) ≡ leaves (delayOf s release (length (now (table .entry)))) (tasksOf s) (now (table .entry)) ⌝ }
+    ensures { λ r. ⌜ DelayPromise s release (now (table .entry)) r (now (table .exit)) ⌝ }
 {
     let z = schedule::sizes(s);
     let Sizes::Of(size) = z else {
-        return Delay::No(sizes_refusal(z));
+        return Delay::No(schedule::sizes_refusal(z));
     };
     if size.hyperperiod <= release {
         return Delay::No(Refusal::Number(12));
@@ -378,44 +395,41 @@ pub fn delay(s: Sheet, release: u32, table: &mut [u32]) -> Delay
     }
     let filled = schedule::responses(s, &mut *table);
     let Responses::Table(totals) = filled else {
-        return Delay::No(responses_refusal(filled));
+        return Delay::No(schedule::responses_refusal(filled));
     };
     Delay::Ticks(delay_in(s, totals.hyperperiod, release / period, &*table))
 }
 
 // The greatest delay of the sheet's chain, and the smallest release that gives it.
 pub fn worst(s: Sheet, table: &mut [u32]) -> Worst
-    ensures { λ r. ⌜ toldWorst r ≡ worstOf s (length (now (table .entry))) ⌝ }
-    ensures { λ _. ⌜ now (table .exit) ≡ leaves (worstOf s (length (now (table .entry)))) (tasksOf s) (now (table .entry)) ⌝ }
+    ensures { λ r. ⌜ WorstPromise s (now (table .entry)) r (now (table .exit)) ⌝ }
 {
     let filled = schedule::responses(s, &mut *table);
     let Responses::Table(totals) = filled else {
-        return Worst::No(responses_refusal(filled));
+        return Worst::No(schedule::responses_refusal(filled));
     };
     Worst::Is(worst_in(s, totals.hyperperiod, &*table))
 }
 
 // The quick bound of the sheet's chain.
 pub fn bound(s: Sheet, table: &mut [u32]) -> Bound
-    ensures { λ r. ⌜ toldBound r ≡ boundOf s (length (now (table .entry))) ⌝ }
-    ensures { λ _. ⌜ now (table .exit) ≡ leaves (boundOf s (length (now (table .entry)))) (tasksOf s) (now (table .entry)) ⌝ }
+    ensures { λ r. ⌜ BoundPromise s (now (table .entry)) r (now (table .exit)) ⌝ }
 {
     let filled = schedule::responses(s, &mut *table);
     let Responses::Table(totals) = filled else {
-        return Bound::No(responses_refusal(filled));
+        return Bound::No(schedule::responses_refusal(filled));
     };
     Bound::Ticks(bound_in(s, totals.hyperperiod, &*table))
 }
 
 // A limit less the worst figure: "the sign tells whether the limit is kept".
 pub fn margin(s: Sheet, limit: u32, table: &mut [u32]) -> Margin
-    ensures { λ r. ⌜ toldMargin r ≡ marginOf s limit (length (now (table .entry))) ⌝ }
-    ensures { λ _. ⌜ now (table .exit) ≡ leaves (marginOf s limit (length (now (table .entry)))) (tasksOf s) (now (table .entry)) ⌝ }
+    ensures { λ r. ⌜ MarginPromise s limit (now (table .entry)) r (now (table .exit)) ⌝ }
 {
     if MOST_LIMIT < limit {
         let z = schedule::sizes(s);
         let Sizes::Of(_) = z else {
-            return Margin::No(sizes_refusal(z));
+            return Margin::No(schedule::sizes_refusal(z));
         };
         return Margin::No(Refusal::Number(13));
     }
@@ -428,8 +442,7 @@ pub fn margin(s: Sheet, limit: u32, table: &mut [u32]) -> Margin
 
 // "The call without a limit uses 1,000 ticks."
 pub fn default_margin(s: Sheet, table: &mut [u32]) -> Margin
-    ensures { λ r. ⌜ toldMargin r ≡ defaultMarginOf s (length (now (table .entry))) ⌝ }
-    ensures { λ _. ⌜ now (table .exit) ≡ leaves (defaultMarginOf s (length (now (table .entry)))) (tasksOf s) (now (table .entry)) ⌝ }
+    ensures { λ r. ⌜ DefaultMarginPromise s (now (table .entry)) r (now (table .exit)) ⌝ }
 {
     margin(s, DEFAULT_LIMIT, &mut *table)
 }
@@ -437,15 +450,13 @@ pub fn default_margin(s: Sheet, table: &mut [u32]) -> Margin
 // What a report says, from one filling of the table, with "R, the greatest response" of each task in its place; zeros where it is
 // refused.
 pub fn figures(s: Sheet, table: &mut [u32]) -> TaskFigures
-    ensures { λ r. ⌜ toldFigures (r .answer) ≡ figuresOf s (length (now (table .entry))) ⌝ }
-    ensures { λ _. ⌜ now (table .exit) ≡ leaves (figuresOf s (length (now (table .entry)))) (tasksOf s) (now (table .entry)) ⌝ }
-    ensures { λ r. ⌜ r .greatest ≡ greatestAfter (responsesOf s (length (now (table .entry)))) s ⌝ }
+    ensures { λ r. ⌜ FiguresPromise s (now (table .entry)) r (now (table .exit)) ⌝ }
 {
     let filled = schedule::task_responses(s, &mut *table);
     let answer = filled.answer;
     let greatest = filled.greatest;
     let Responses::Table(totals) = answer else {
-        let refusal = responses_refusal(answer);
+        let refusal = schedule::responses_refusal(answer);
         return TaskFigures {
             answer: Figures::No(refusal),
             greatest,
@@ -464,15 +475,4 @@ pub fn figures(s: Sheet, table: &mut [u32]) -> TaskFigures
         answer: Figures::Of(summary),
         greatest,
     }
-}
-
-// How far a margin is from zero.
-pub fn magnitude(z: i32) -> u64
-    ensures { λ r. ⌜ r ≡ natAbs z ⌝ }
-{
-    let ticks = z as i64;
-    if ticks < 0 {
-        return (0 - ticks) as u64;
-    }
-    ticks as u64
 }

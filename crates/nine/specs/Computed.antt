@@ -11,22 +11,23 @@ use borrow.Author.Tests.{lt-ltb, le-ltb}
 use Rattle.bits.specs.Bits.{listOf}
 use Rattle.bits.specs.Lists.{listOf-same}
 use Rattle.theory.specs.declared.Task.{Task}
-use Rattle.theory.specs.Ranges.{maximum, maximum-above, maximum-least}
-use Rattle.theory.specs.Model.{period, rank, Proper}
-use Rattle.theory.specs.Responses.{response, hyperperiod, jobs, allJobs, taskResponse}
-use Rattle.theory.specs.Simulate.{outranking, greatest}
-use Rattle.theory.specs.Clearing.{clearing, response-clearing, clearing-late, late-clearing}
-use Rattle.theory.specs.Evaluation.{worst-clearing, worst-release-clearing, bound-clearing}
-use Rattle.theory.specs.Chain.{Chain, worst, worstRelease, bound}
+use Rattle.arith.specs.Ranges.{maximum}
+use Rattle.arith.specs.RangeLaws.{maximum-above, maximum-least}
+use Rattle.theory.specs.Model.Schedule.{period, rank, Proper}
+use Rattle.theory.specs.Model.Responses.{response, hyperperiod, jobs, allJobs, taskResponse}
+use Rattle.theory.specs.Model.Greatest.{outranking, greatest}
+use Rattle.theory.specs.Analysis.Clearing.{clearing, response-clearing, clearing-late, late-clearing}
+use Rattle.theory.specs.Analysis.Evaluation.{worst-clearing, worst-release-clearing, bound-clearing}
+use Rattle.theory.specs.Model.Chain.{Chain, worst, worstRelease, bound}
 use Rattle.sheet.specs.declared.Sheet.{Sheet}
-use Rattle.sheet.specs.Answers.{Answer, given, refused, Judgement, fine, when, after, also}
+use Rattle.answers.specs.Answers.{Answer, given, refused, Judgement, fine, when, after, also}
 use Rattle.sheet.specs.Calls.{judgeOf}
-use Rattle.sheet.specs.Sound.{judged-sound}
-use Rattle.schedule.specs.Answer.{tasksOf, mostTicks, mostJobs, lateTask, lateGreatest, lateness, sizesOf, responsesOf, rows}
+use Rattle.sheet.specs.SoundLaws.{judged-sound}
+use Rattle.sheet.specs.Tasks.{tasksOf, chainOf, firstOf, restOf}
+use Rattle.sheet.specs.TaskLaws.{sound-proper, chain-known}
+use Rattle.schedule.specs.Calls.{mostTicks, mostJobs, lateTask, lateGreatest, lateness, sizesOf, responsesOf, rows}
 use Rattle.schedule.specs.Lateness.{job-late, late-job}
-use Rattle.schedule.specs.Cases.{sound-proper}
-use Rattle.chain.specs.Answer.{chainOf, firstOf, restOf, figureOf, quickBound, worstOf, boundOf}
-use Rattle.chain.specs.SheetLaws.{chain-known}
+use Rattle.chain.specs.Calls.{figureOf, quickBound, worstOf, boundOf}
 use Rattle.nine.specs.Outcome.{Figures, outcomeOf}
 
 -- ---- by clearing times

@@ -6,17 +6,17 @@ use lib.ListN.{length, getD}
 use Rattle.arith.specs.Whole.{gcd, lcm, up}
 use Rattle.bits.specs.Bits.{listOf}
 use Rattle.theory.specs.declared.Task.{Task}
-use Rattle.theory.specs.Model.{none}
-use Rattle.theory.specs.Ranges.{sum, maximum, least}
-use Rattle.theory.specs.Responses.{hyperperiod, allJobs}
-use Rattle.theory.specs.Simulate.{greatest}
-use Rattle.theory.specs.Clearing.{clearing}
-use Rattle.theory.specs.Chain.{worst, worstRelease, bound}
+use Rattle.theory.specs.Model.Schedule.{none}
+use Rattle.arith.specs.Ranges.{sum, maximum, least}
+use Rattle.theory.specs.Model.Responses.{hyperperiod, allJobs}
+use Rattle.theory.specs.Model.Greatest.{greatest}
+use Rattle.theory.specs.Analysis.Clearing.{clearing}
+use Rattle.theory.specs.Model.Chain.{worst, worstRelease, bound}
 use Rattle.sheet.specs.declared.Sheet.{Sheet}
-use Rattle.sheet.specs.Answers.{Answer, given, refused, first}
+use Rattle.answers.specs.Answers.{Answer, given, refused, first}
 use Rattle.sheet.specs.Fields.{taskFields, entryFields, among}
 use Rattle.sheet.specs.Calls.{places, judgeOf}
-use Rattle.schedule.specs.Answer.{tasksOf}
+use Rattle.sheet.specs.Tasks.{tasksOf}
 use Rattle.nine.specs.Outcome.{Figures, outcomeOf}
 use Rattle.nine.specs.Computed.{rowsBy, computedOf, outcome-computed}
 
@@ -33,17 +33,17 @@ sheet ts chain = record {
 }
 
 -- A sheet, and what document 01 says of it.
-pub record Row : Type 0 where
+pub record Sample : Type 0 where
   pub on : Sheet
   pub says : Answer Figures
 
-abbrev taken : List Task → List ℕ → List ℕ → ℕ → ℕ → ℕ → Row
+abbrev taken : List Task → List ℕ → List ℕ → ℕ → ℕ → ℕ → Sample
 taken ts chain table figure release quick = record {
   on = sheet ts chain;
   says = given (record { table = table; worst = figure; release = release; bound = quick });
 }
 
-abbrev not-taken : List Task → ℕ → List ℕ → Row
+abbrev not-taken : List Task → ℕ → List ℕ → Sample
 not-taken ts number values = record { on = sheet ts (0 ∷ []); says = refused number values }
 
 abbrev radio : List Task
@@ -52,7 +52,7 @@ radio = task 20 5 1 ∷ task 6 1 3 ∷ task 12 3 2 ∷ []
 abbrev radioTable : List ℕ
 radioTable = 10 ∷ 9 ∷ 6 ∷ 1 ∷ 1 ∷ 1 ∷ 1 ∷ 1 ∷ 1 ∷ 1 ∷ 1 ∷ 1 ∷ 1 ∷ 4 ∷ 4 ∷ 4 ∷ 4 ∷ 4 ∷ []
 
-abbrev pub nineSheets : List Row
+abbrev pub nineSheets : List Sample
 nineSheets =
     taken (task 8 1 1 ∷ task 2 1 3 ∷ task 4 1 2 ∷ []) (0 ∷ 1 ∷ 2 ∷ []) (4 ∷ 1 ∷ 1 ∷ 1 ∷ 1 ∷ 2 ∷ 2 ∷ []) 6 0 8
     ∷ taken radio (0 ∷ 1 ∷ 2 ∷ []) radioTable 20 20 24
@@ -65,12 +65,12 @@ nineSheets =
     ∷ not-taken (task 2 1 2 ∷ task 16384 1 1 ∷ []) 11 []
     ∷ []
 
-abbrev pub Every : (Row → Type 0) → List Row → Type 0
+abbrev pub Every : (Sample → Type 0) → List Sample → Type 0
 Every P [] = Unit {0}
 Every P (r ∷ rs) = P r × Every P rs
 
 -- One evaluation of all rows, and one law for each of them.
-rows-hold : (rs : List Row) → map (λ r. computedOf (r .on)) rs ≡ map (λ r. r .says) rs → Every (λ r. outcomeOf (r .on) ≡ r .says) rs
+rows-hold : (rs : List Sample) → map (λ r. computedOf (r .on)) rs ≡ map (λ r. r .says) rs → Every (λ r. outcomeOf (r .on) ≡ r .says) rs
 rows-hold [] e = tt
 rows-hold (r ∷ rs) e = (outcome-computed (r .on) ∙ cc, rows-hold rs cc)
 

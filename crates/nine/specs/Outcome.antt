@@ -3,9 +3,10 @@ use mathlib.Core.List.{List}
 use Prim.Native.Nat.{ℕ}
 use lib.ListN.{length}
 use Rattle.sheet.specs.declared.Sheet.{Sheet}
-use Rattle.sheet.specs.Answers.{Answer, given, after}
-use Rattle.schedule.specs.Answer.{tasksOf, mostJobs, responsesOf, rows}
-use Rattle.chain.specs.Answer.{worstOf, boundOf}
+use Rattle.answers.specs.Answers.{Answer, given, after}
+use Rattle.sheet.specs.Tasks.{tasksOf}
+use Rattle.schedule.specs.Calls.{mostJobs, responsesOf, rows}
+use Rattle.chain.specs.Calls.{worstOf, boundOf}
 
 pub record Figures : Type 0 where
   pub table : List ℕ

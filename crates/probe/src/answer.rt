@@ -2,7 +2,7 @@
 // 0 for none; the call's values; the lent memory. Every number is a word of four bytes, the most significant first.
 // A function that puts something answers the place after it.
 use super::request::past;
-use sheet::Refusal;
+use answers::Refusal;
 use sheet::Sheet;
 
 fn wide(x: u8) -> u32 {
@@ -78,7 +78,7 @@ pub fn accepted(out: &mut [u8]) -> usize {
 pub fn refused(out: &mut [u8], r: Refusal) -> usize {
     match r {
         Refusal::Number(n) => opening(out, wide(n), 0),
-        Refusal::Late(i) => opening(out, 15, wide(i) % 256 + 1),
+        Refusal::With(n, value) => opening(out, wide(n), value % 65536 + 1),
     }
 }
 

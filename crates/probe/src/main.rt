@@ -15,6 +15,8 @@ use answer::put_words;
 use answer::refused;
 use answer::three;
 use answer::two;
+use answers::Refusal;
+use answers::Verdict;
 use arith::Multiple;
 use chain::Bound;
 use chain::Delay;
@@ -30,9 +32,7 @@ use request::sheet_in;
 use schedule::Responses;
 use schedule::Sizes;
 use schedule::TaskResponses;
-use sheet::Refusal;
 use sheet::Sheet;
-use sheet::Verdict;
 use sheet::Written;
 
 // What each call answers
@@ -135,7 +135,7 @@ fn put_task_figures(out: &mut [u8], t: TaskFigures) -> usize {
 // Whether it is below zero, and how far from zero it is.
 fn put_signed(out: &mut [u8], at: usize, z: i32) -> usize {
     let next = put_word(&mut *out, at, below_zero(z));
-    put_long(out, next, chain::magnitude(z))
+    put_long(out, next, arith::magnitude(z))
 }
 
 fn below_zero(z: i32) -> u32 {
@@ -157,7 +157,7 @@ fn of_numbers(call: u32, a: u32, b: u32, c: u32, out: &mut [u8]) -> usize {
         1 => one(out, arith::gcd(a, b)),
         2 => put_multiple(out, arith::lcm(a, b, c)),
         3 => long(out, arith::up(a, b)),
-        4 => long(out, chain::magnitude(signed(a))),
+        4 => long(out, arith::magnitude(signed(a))),
         _ => accepted(out),
     }
 }
@@ -217,7 +217,7 @@ fn of_call(q: Request, sheet: &[u8], lent: &mut [u8], table: &mut [u32], out: &m
         5 => one(out, bits::number(sheet, q.first, q.second)),
         6 => of_lent_bytes(lent, q.first, q.second, q.third, out),
         7 => of_reading(sheet, out),
-        8 => one(out, schedule::greatest(&*table)),
+        8 => one(out, arith::greatest(&*table)),
         _ => {
             if q.form == 0 {
                 return of_bytes(q, sheet, lent, table, out);

@@ -1,11 +1,11 @@
 // The report of one timing sheet, read from standard input: document 01's lines, or the refusal.
+use answers::Refusal;
+use answers::Verdict;
 use chain::Figure;
 use chain::Figures;
 use chain::Summary;
 use schedule::Totals;
-use sheet::Refusal;
 use sheet::Sheet;
-use sheet::Verdict;
 
 fn wide(x: u32) -> u64 {
     x as u64
@@ -25,13 +25,16 @@ fn print_signed(label: &[u8], n: i32) {
     if n < 0 {
         io::write_all(1, b"-");
     }
-    io::print_decimal(1, chain::magnitude(n));
+    io::print_decimal(1, arith::magnitude(n));
 }
 
 fn print_refusal(r: Refusal) {
     match r {
         Refusal::Number(n) => print_number(b"refused ", short(n)),
-        Refusal::Late(i) => print_number(b"refused 15 task ", short(i)),
+        Refusal::With(n, task) => {
+            print_number(b"refused ", short(n));
+            print_number(b" task ", task);
+        }
     }
     io::write_all(1, b"\n");
 }

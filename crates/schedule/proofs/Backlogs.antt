@@ -11,23 +11,25 @@ use lib.Seq.{ext-getD}
 use borrow.Author.Tests.{eq-eqb}
 use Rattle.bits.specs.Lists.{length-listOf, getD-listOf}
 use Rattle.theory.specs.declared.Task.{Task}
-use Rattle.theory.specs.Ranges.{sum-le, sum-const}
-use Rattle.theory.specs.Model.{none, period, budget, rank, need, released, due}
-use Rattle.theory.specs.Responses.{full, response, jobs}
-use Rattle.theory.specs.Work.{due-step, due-jobs}
-use Rattle.theory.specs.Level.{level, level-add, level-le, level-eq}
-use Rattle.theory.specs.Backlog.{load, drain, backlog-unfinished}
-use Rattle.theory.specs.Existence.{full-schedule}
-use Rattle.theory.specs.ResponseLaws.{zero-on-time, first-zero-response, no-zero-late}
-use Rattle.theory.specs.Hyperperiod.{jobs-whole}
+use Rattle.arith.specs.RangeLaws.{sum-le, sum-const}
+use Rattle.theory.specs.Model.Schedule.{none, period, budget, rank, need, released, due}
+use Rattle.theory.specs.Model.Responses.{full, response, jobs}
+use Rattle.theory.specs.Analysis.Work.{due-step, due-jobs}
+use Rattle.theory.specs.Analysis.Level.{level, level-add, level-le, level-eq}
+use Rattle.theory.specs.Analysis.Backlog.{load, drain, backlog-unfinished}
+use Rattle.theory.specs.Analysis.Existence.{full-schedule}
+use Rattle.theory.specs.Analysis.ResponseLaws.{zero-on-time, first-zero-response, no-zero-late}
+use Rattle.theory.specs.Analysis.Hyperperiod.{jobs-whole}
 use Rattle.sheet.specs.declared.Sheet.{Sheet}
+use Rattle.sheet.specs.Sound.{Sound}
+use Rattle.sheet.specs.Tasks.{tasksOf}
+use Rattle.sheet.specs.TaskLaws.{sound-proper, tasks-length, task-allowed}
 use Rattle.schedule.specs.declared.answer.Row.{Row}
 use Rattle.schedule.specs.declared.answer.Row.the-variants.{Rests, Late}
-use Rattle.schedule.specs.Answer.{mostTicks, tasksOf, lateTask, row}
+use Rattle.schedule.specs.Calls.{mostTicks, lateTask, row}
 use Rattle.schedule.specs.Lateness.{job-late, late-job}
-use Rattle.schedule.specs.Cases.{sound-proper}
-use Rattle.schedule.specs.Steps.{Taken, Period, brings, placed, coming, mostClear, restsTo, Additive, Level, Walk, Walked, RowFilled}
-use Rattle.schedule.proofs.Tasks.{tasks-length, task-fine, level-own}
+use Rattle.schedule.specs.Conditions.{Period, brings, placed, coming, mostClear, restsTo, Additive, Level, Walk, Walked, RowFilled}
+use Rattle.schedule.proofs.Tasks.{level-own}
 
 -- What comes in is the load of the level.
 pub coming-load : {ts : List Task} {i : ℕ} {periods budgets : List ℕ} {size : ℕ} → Level ts i periods budgets size → coming (getD ts i none) periods budgets size ≡ load ts (full ts) i
@@ -45,7 +47,7 @@ part-most : (b : Bool) (x : ℕ) → cond b x 0 ≤ x
 part-most true x = le-refl x
 part-most false x = omega arith
 
-module _ {s : Sheet} (ok : Taken s) (i : ℕ) (known : i < s .count) where
+module _ {s : Sheet} (ok : Sound s) (i : ℕ) (known : i < s .count) where
   abbrev ts : List Task
   ts = tasksOf s
 
@@ -58,7 +60,7 @@ module _ {s : Sheet} (ok : Taken s) (i : ℕ) (known : i < s .count) where
   -- A task's own jobs are work of its level.
   own-load : (k : ℕ) → 0 < a (k * period ts i)
   unfolding load released
-  own-load k = omega (arith, own, level-own ok i known (λ j. released ts (full ts) j (k * period ts i)), task-fine ok i listed .budget-positive)
+  own-load k = omega (arith, own, level-own ok i known (λ j. released ts (full ts) j (k * period ts i)), task-allowed ok i listed .budget-positive)
     where
       own : released ts (full ts) i (k * period ts i) ≡ budget ts i
       own = rw (eq-eqb (k * period ts i % period ts i) 0 (mul-mod-left k (period ts i)))
@@ -68,11 +70,11 @@ module _ {s : Sheet} (ok : Taken s) (i : ℕ) (known : i < s .count) where
   unfolding need
   due-most j t l m = omega (
     arith,
-    due-jobs ts (full ts) j (task-fine ok j l .period-positive) t,
+    due-jobs ts (full ts) j (task-allowed ok j l .period-positive) t,
     sum-const (suc (t / period ts j)) (budget ts j),
-    mul-le-mul {n₂ = suc (t / period ts j)} {m₂ = period ts j} (le-refl (suc (t / period ts j))) (task-fine ok j l .budget-most),
+    mul-le-mul {n₂ = suc (t / period ts j)} {m₂ = period ts j} (le-refl (suc (t / period ts j))) (task-allowed ok j l .budget-most),
     div-mul-le-self t (period ts j),
-    task-fine ok j l .period-most,
+    task-allowed ok j l .period-most,
   )
 
   work-most : (t : ℕ) → t ≤ mostTicks → t + drain a t + a t ≤ mostClear
@@ -86,15 +88,15 @@ module _ {s : Sheet} (ok : Taken s) (i : ℕ) (known : i < s .count) where
     sum-le (length ts) (λ j. cond (leb (rank ts i) (rank ts j)) 1100000 0) (λ j. 1100000) (λ j m. part-most (leb (rank ts i) (rank ts j)) 1100000),
     sum-const (length ts) 1100000,
     tasks-length ok,
-    ok .sound .count-most,
+    ok .count-most,
   )
 
   module _ {h : ℕ} (is : Period s h) where
     pub walkable : Walk a (period ts i) h (jobs ts i)
     walkable = record {
-      period-positive = task-fine ok i listed .period-positive;
-      period-most = task-fine ok i listed .period-most;
-      ends = jobs-whole (sound-proper (ok .sound)) i listed ∙ sym (is .is-hyperperiod);
+      period-positive = task-allowed ok i listed .period-positive;
+      period-most = task-allowed ok i listed .period-most;
+      ends = jobs-whole (sound-proper ok) i listed ∙ sym (is .is-hyperperiod);
       short = is .within-limit;
       own = own-load;
       bounded = λ t l. work-most t (omega (arith, is .within-limit));
@@ -110,15 +112,15 @@ module _ {s : Sheet} (ok : Taken s) (i : ℕ) (known : i < s .count) where
       where
         responds : (k : ℕ) → k < length xs → getD xs k 0 ≡ response ts i k
         responds k l = let x = cleared k l in
-            omega (arith, first-zero-response (sound-proper (ok .sound)) i k listed (k * period ts i + getD xs k 0) (omega (arith, x .soon)) (x .clears))
+            omega (arith, first-zero-response (sound-proper ok) i k listed (k * period ts i + getD xs k 0) (omega (arith, x .soon)) (x .clears))
 
         on-time : (b : Bool) → lateTask ts i ≡ b → b ≡ false
         on-time false e = refl
         on-time true e =
             let x = late-job ts i e in
             let y = cleared (x .0) (omega (arith, x .1)) in
-            absurd (zero-on-time (sound-proper (ok .sound)) i (x .0) listed (x .0 * period ts i + getD xs (x .0) 0) (y .clears .after) (omega (arith, y .soon)) (y .clears .is-zero) (x .2))
-    row-filled xs Late n (k, l, blocked) = let late = job-late ts i k (omega arith) (no-zero-late (sound-proper (ok .sound)) i k listed blocked) in record {
+            absurd (zero-on-time (sound-proper ok) i (x .0) listed (x .0 * period ts i + getD xs (x .0) 0) (y .clears .after) (omega (arith, y .soon)) (y .clears .is-zero) (x .2))
+    row-filled xs Late n (k, l, blocked) = let late = job-late ts i k (omega arith) (no-zero-late (sound-proper ok) i k listed blocked) in record {
       noted = late;
       filled = λ e. absurd (let z : _≡_ {A = ℕ} 0 1 = cc (late, e) in omega arith);
     }

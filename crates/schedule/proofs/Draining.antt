@@ -8,10 +8,10 @@ use native.Mathlib.Decide.{ℕ-discrete, decLe, decLt}
 use lib.ListN.{length, getD, set, length-set}
 use lib.Seq.{getD-set-same, getD-set-other}
 use borrow.Author.Count.{below-more}
-use Rattle.theory.specs.Ranges.{sum}
-use Rattle.theory.specs.Backlog.{drain, drain-stretch}
-use Rattle.theory.specs.Finish.{FirstZero}
-use Rattle.schedule.specs.Steps.{restsTo, Cleared, Blocked, Walk}
+use Rattle.arith.specs.Ranges.{sum}
+use Rattle.theory.specs.Analysis.Backlog.{drain, drain-stretch}
+use Rattle.theory.specs.Analysis.Finish.{FirstZero}
+use Rattle.schedule.specs.Conditions.{restsTo, Cleared, Blocked, Walk}
 
 pub rests-most : (a : ℕ → ℕ) (t : ℕ) → restsTo a t ≤ t
 unfolding restsTo sum

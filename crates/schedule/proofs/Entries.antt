@@ -10,8 +10,8 @@ use borrow.Rule.Slice.PartMut.{putMid, postOf, drop-put, same-len-mid}
 use Rattle.theory.specs.declared.Task.{Task}
 use Rattle.schedule.specs.declared.answer.Row.{Row}
 use Rattle.schedule.specs.declared.answer.Found.{Found}
-use Rattle.schedule.specs.Answer.{row, rows}
-use Rattle.schedule.specs.Steps.{RowFilled, FoundTo, Filled}
+use Rattle.schedule.specs.Calls.{row, rows}
+use Rattle.schedule.specs.Conditions.{RowFilled, FoundTo, Filled}
 use Rattle.schedule.proofs.Notes.{none-late-before}
 
 -- One zero more.

@@ -7,3 +7,4 @@ pub mod Backlogs
 pub mod Notes
 pub mod Entries
 pub mod Endings
+pub mod Promised

@@ -10,27 +10,26 @@ use lib.Dec.{ltb}
 use lib.ListN.{length, getD}
 use borrow.Author.Tests.{lt-ltb, le-ltb}
 use Rattle.theory.specs.declared.Task.{Task}
-use Rattle.theory.specs.Ranges.{sum-eq, below-suc}
-use Rattle.theory.specs.Model.{none, rank, Slot, idle, busy}
-use Rattle.theory.specs.Simulate.{outranking, greatest}
-use Rattle.theory.specs.Responses.{full, hyperperiod, idleTicks}
-use Rattle.theory.specs.Backlog.{load}
-use Rattle.theory.specs.Existence.{full-schedule}
-use Rattle.theory.specs.Idle.{idle-backlog}
+use Rattle.arith.specs.RangeLaws.{sum-eq, below-suc}
+use Rattle.theory.specs.Model.Schedule.{none, rank, Slot, idle, busy}
+use Rattle.theory.specs.Model.Greatest.{outranking, greatest}
+use Rattle.theory.specs.Model.Responses.{full, hyperperiod, idleTicks}
+use Rattle.theory.specs.Analysis.Backlog.{load}
+use Rattle.theory.specs.Analysis.Existence.{full-schedule}
+use Rattle.theory.specs.Analysis.Idle.{idle-backlog}
 use Rattle.sheet.specs.declared.Sheet.{Sheet}
-use Rattle.schedule.specs.Answer.{tasksOf, lateTask, lateGreatest}
-use Rattle.schedule.specs.Steps.{Taken, restsTo, LowestTo, LateTo}
-use Rattle.schedule.proofs.Tasks.{task-at}
+use Rattle.sheet.specs.Sound.{Sound}
+use Rattle.sheet.specs.Tasks.{tasksOf}
+use Rattle.sheet.specs.TaskLaws.{rank-at}
+use Rattle.schedule.specs.Calls.{lateTask, lateGreatest}
+use Rattle.schedule.specs.Conditions.{restsTo, LowestTo, LateTo}
 
-module _ {s : Sheet} (ok : Taken s) (i : ℕ) (known : i < s .count) where
+module _ {s : Sheet} (ok : Sound s) (i : ℕ) (known : i < s .count) where
   abbrev ts : List Task
   ts = tasksOf s
 
   abbrev rankAt : ℕ → ℕ
   rankAt j = getD (s .tasks) j none .rank
-
-  rank-at : (j : ℕ) → j < s .count → rank ts j ≡ rankAt j
-  rank-at j l = ap (λ x. x .rank) (task-at ok j l)
 
   step-late : (x : Slot) → lateTask ts i ≡ true → lateGreatest ts i ≡ x → lateGreatest ts (suc i) ≡ outranking (rank ts) i x
   unfolding greatest
@@ -48,7 +47,7 @@ module _ {s : Sheet} (ok : Taken s) (i : ℕ) (known : i < s .count) where
   pub late-greater : {w : ℕ} → LateTo ts i w → lateTask ts i ≡ true → rankAt w < rankAt i → LateTo ts (suc i) i
   late-greater {w} f e l = record {
     is-greatest = step-late (busy w) e (f .is-greatest)
-        ∙ ap (λ b. cond b (busy i) (busy w)) (lt-ltb (rank ts w) (rank ts i) (omega (arith, rank-at i known, rank-at w (omega (arith, f .known)))));
+        ∙ ap (λ b. cond b (busy i) (busy w)) (lt-ltb (rank ts w) (rank ts i) (omega (arith, rank-at ok i known, rank-at ok w (omega (arith, f .known)))));
     known = omega arith;
   }
 
@@ -56,7 +55,7 @@ module _ {s : Sheet} (ok : Taken s) (i : ℕ) (known : i < s .count) where
   pub late-kept : {w : ℕ} → LateTo ts i w → lateTask ts i ≡ true → rankAt i ≤ rankAt w → LateTo ts (suc i) w
   late-kept {w} f e l = record {
     is-greatest = step-late (busy w) e (f .is-greatest)
-        ∙ ap (λ b. cond b (busy i) (busy w)) (le-ltb (rank ts w) (rank ts i) (omega (arith, rank-at i known, rank-at w (omega (arith, f .known)))));
+        ∙ ap (λ b. cond b (busy i) (busy w)) (le-ltb (rank ts w) (rank ts i) (omega (arith, rank-at ok i known, rank-at ok w (omega (arith, f .known)))));
     known = omega (arith, f .known);
   }
 
@@ -75,14 +74,14 @@ module _ {s : Sheet} (ok : Taken s) (i : ℕ) (known : i < s .count) where
   }
     where
       under : rank ts i ≤ rank ts low
-      under = omega (arith, rank-at i known, rank-at low (omega (arith, f .known)))
+      under = omega (arith, rank-at ok i known, rank-at ok low (omega (arith, f .known)))
 
   -- or not.
   pub on-time-kept : {low before : ℕ} → LowestTo ts i low before → lateTask ts i ≡ false → rankAt low < rankAt i → LowestTo ts (suc i) low before
   on-time-kept {low} f e l = record {
     none-late = step-on-time idle e (f .none-late);
     known = omega (arith, f .known);
-    lowest = below-suc (λ j. rank ts low ≤ rank ts j) (f .lowest) (omega (arith, rank-at i known, rank-at low (omega (arith, f .known))));
+    lowest = below-suc (λ j. rank ts low ≤ rank ts j) (f .lowest) (omega (arith, rank-at ok i known, rank-at ok low (omega (arith, f .known))));
     rest = λ m. let x = f .rest (some (ℕ-discrete i 0)) in (omega (arith, x .0), x .1);
   }
     where

@@ -13,10 +13,11 @@ use borrow.Author.Tests.{eq-eqb, ne-eqb}
 use Rattle.arith.specs.Whole.{up}
 use Rattle.arith.specs.WholeLaws.{up-divides, up-above, up-near, up-least, up-is, up-fixed}
 use Rattle.theory.specs.declared.Task.{Task}
-use Rattle.theory.specs.Ranges.{sum, sum-zero, sum-grows}
-use Rattle.theory.specs.Backlog.{drain}
+use Rattle.arith.specs.Ranges.{sum}
+use Rattle.arith.specs.RangeLaws.{sum-zero, sum-grows}
+use Rattle.theory.specs.Analysis.Backlog.{drain}
 use Rattle.schedule.specs.declared.answer.Turn.{Turn}
-use Rattle.schedule.specs.Steps.{brings, Places, placed, coming, NextAt, Turned}
+use Rattle.schedule.specs.Conditions.{brings, Places, placed, coming, NextAt, Turned}
 use Rattle.schedule.proofs.Draining.{Gap}
 
 -- One task

@@ -1,4 +1,4 @@
--- The tasks of a sheet that is taken: its sixteen places read as a list, their hyperperiod and jobs, and those that outrank one gathered from them.
+-- The tasks of a sheet that is judged fine: their hyperperiod and jobs, task by task, and those that outrank one gathered from them.
 use mathlib.Core.Path.{_≡_, refl, sym, ap, ap₂, _∙_, subst}
 use mathlib.Core.List.{List}
 use mathlib.Core.Bool.{Bool, true, false, cond}
@@ -8,61 +8,38 @@ use native.Mathlib.Numerals.{add-one}
 use native.Mathlib.Omega.{arith}
 use native.Mathlib.Decide.{ℕ-discrete, decLt}
 use lib.Dec.{leb, ltb, eqb}
-use lib.ListN.{length, getD, drop, set, length-take, length-drop, length-set, drop-of-length-le}
-use lib.Seq.{getD-take, getD-drop, drop-cons, getD-set-same, getD-set-other}
+use lib.ListN.{length, getD, drop, set, length-drop, length-set, drop-of-length-le}
+use lib.Seq.{getD-drop, drop-cons, getD-set-same, getD-set-other}
 use borrow.Author.Count.{below-more}
 use borrow.Author.Tests.{le-leb, lt-leb, lt-ltb, le-ltb, eq-eqb, ne-eqb}
 use Rattle.arith.specs.Whole.{lcm}
 use Rattle.theory.specs.declared.Task.{Task}
-use Rattle.theory.specs.Ranges.{sum, sum-add, sum-eq, sum-le, sum-const, sum-point, sum-grows}
-use Rattle.theory.specs.Model.{none, period, budget, rank}
-use Rattle.theory.specs.Responses.{hyperperiod, jobs, allJobs}
-use Rattle.theory.specs.Hyperperiod.{hyperperiod-multiple, hyperperiod-least, hyperperiod-positive}
-use Rattle.theory.specs.Level.{level}
+use Rattle.arith.specs.Ranges.{sum}
+use Rattle.arith.specs.RangeLaws.{sum-add, sum-eq, sum-le, sum-const, sum-point, sum-grows}
+use Rattle.theory.specs.Model.Schedule.{none, period, budget, rank}
+use Rattle.theory.specs.Model.Responses.{hyperperiod, jobs, allJobs}
+use Rattle.theory.specs.Analysis.Hyperperiod.{hyperperiod-multiple, hyperperiod-least, hyperperiod-positive}
+use Rattle.theory.specs.Analysis.Level.{level}
 use Rattle.sheet.specs.declared.Sheet.{Sheet}
-use Rattle.schedule.specs.Answer.{mostTicks, tasksOf}
-use Rattle.schedule.specs.Cases.{sound-proper}
-use Rattle.schedule.specs.Steps.{Taken, Period, Places, Additive, Level}
+use Rattle.sheet.specs.Sound.{Sound}
+use Rattle.sheet.specs.Tasks.{tasksOf}
+use Rattle.sheet.specs.TaskLaws.{sound-proper, tasks-length, task-at, jobs-at, place-allowed, task-allowed}
+use Rattle.schedule.specs.Calls.{mostTicks}
+use Rattle.schedule.specs.Conditions.{Period, Places, Additive, Level}
 
--- A task whose T and C are allowed.
-pub record Fine (t : Task) : Type 0 where
-  pub period-positive : 0 < t .period
-  pub period-most : t .period ≤ 100000
-  pub budget-positive : 0 < t .budget
-  pub budget-most : t .budget ≤ t .period
-
-module _ {s : Sheet} (ok : Taken s) where
-  pub place-fine : (i : ℕ) → i < s .count → Fine (getD (s .tasks) i none)
-  place-fine i l = record {
-    period-positive = ok .sound .period-least i l;
-    period-most = ok .sound .period-most i l;
-    budget-positive = ok .sound .budget-least i l;
-    budget-most = ok .sound .budget-most i l;
-  }
-
-  pub tasks-length : length (tasksOf s) ≡ s .count
-  unfolding tasksOf
-  tasks-length = rw length-take (omega (arith, ok .sound .count-most, ok .whole))
-
-  pub task-at : (i : ℕ) → i < s .count → getD (tasksOf s) i none ≡ getD (s .tasks) i none
-  unfolding tasksOf
-  task-at i l = getD-take (s .count) (s .tasks) i none l
-
-  pub task-fine : (i : ℕ) → i < length (tasksOf s) → Fine (getD (tasksOf s) i none)
-  task-fine i l = subst Fine (sym (task-at i (omega (arith, tasks-length)))) (place-fine i (omega (arith, tasks-length)))
-
+module _ {s : Sheet} (ok : Sound s) where
   -- The hyperperiod from the last task backwards
 
   pub multiple-start : 1 ≡ hyperperiod (drop (s .count) (tasksOf s))
   unfolding hyperperiod
-  multiple-start = rw (drop-of-length-le (tasksOf s) {i = s .count} (omega (arith, tasks-length)))
+  multiple-start = rw (drop-of-length-le (tasksOf s) {i = s .count} (omega (arith, tasks-length ok)))
 
   pub multiple-step : (i multiple : ℕ) → 0 < i → i ≤ s .count → multiple ≡ hyperperiod (drop i (tasksOf s))
       → lcm (getD (s .tasks) (i - 1) none .period) multiple ≡ hyperperiod (drop (i - 1) (tasksOf s))
   unfolding hyperperiod
   multiple-step i multiple some l e =
-      sym (ap hyperperiod (drop-cons (tasksOf s) (i - 1) none (omega (arith, tasks-length)))
-      ∙ ap₂ (λ x y. lcm (x .period) (hyperperiod (drop y (tasksOf s)))) (task-at (i - 1) (omega arith)) back
+      sym (ap hyperperiod (drop-cons (tasksOf s) (i - 1) none (omega (arith, tasks-length ok)))
+      ∙ ap₂ (λ x y. lcm (x .period) (hyperperiod (drop y (tasksOf s)))) (task-at ok (i - 1) (omega arith)) back
       ∙ ap (lcm (getD (s .tasks) (i - 1) none .period)) (sym e))
     where
       back : suc (i - 1) ≡ i
@@ -70,7 +47,7 @@ module _ {s : Sheet} (ok : Taken s) where
 
   -- The least common multiple of some periods is no more than that of all.
   pub multiple-most : (i : ℕ) → hyperperiod (drop i (tasksOf s)) ≤ hyperperiod (tasksOf s)
-  multiple-most i = le-of-dvd (hyperperiod-positive (tasksOf s) (λ j l. task-fine j l .period-positive))
+  multiple-most i = le-of-dvd (hyperperiod-positive (tasksOf s) (λ j l. task-allowed ok j l .period-positive))
       (hyperperiod-least (drop i (tasksOf s)) (hyperperiod (tasksOf s)) each)
     where
       each : (j : ℕ) → j < length (drop i (tasksOf s)) → period (drop i (tasksOf s)) j ∣ hyperperiod (tasksOf s)
@@ -78,19 +55,16 @@ module _ {s : Sheet} (ok : Taken s) where
 
   -- The jobs of the first tasks
 
-  pub jobs-at : (h i : ℕ) → Period s h → i < s .count → jobs (tasksOf s) i ≡ h / getD (s .tasks) i none .period
-  jobs-at h i p l = ap₂ (λ x y. x / y .period) (sym (p .is-hyperperiod)) (task-at i l)
-
   pub jobs-next : (h i : ℕ) → Period s h → i < s .count → sum i (jobs (tasksOf s)) + h / getD (s .tasks) i none .period ≡ sum (i + 1) (jobs (tasksOf s))
   unfolding sum
-  jobs-next h i p l = rw add-one (omega (arith, jobs-at h i p l))
+  jobs-next h i p l = rw add-one (omega (arith, jobs-at ok (p .is-hyperperiod) i l))
 
   pub jobs-most : (h i : ℕ) → Period s h → i ≤ s .count → sum i (jobs (tasksOf s)) ≤ i * mostTicks
   jobs-most h i p l = rw (← sum-const i mostTicks) (sum-le i _ _ (λ j m. le-trans (div-le-self _ _) (omega (arith, p .is-hyperperiod, p .within-limit))))
 
   pub all-jobs : allJobs (tasksOf s) ≡ sum (s .count) (jobs (tasksOf s))
   unfolding allJobs
-  all-jobs = ap (λ n. sum n (jobs (tasksOf s))) tasks-length
+  all-jobs = ap (λ n. sum n (jobs (tasksOf s))) (tasks-length ok)
 
   pub jobs-within : (h i : ℕ) → Period s h → i < s .count → sum i (jobs (tasksOf s)) + h / getD (s .tasks) i none .period ≤ allJobs (tasksOf s)
   jobs-within h i p l = omega (arith, jobs-next h i p l, all-jobs, sum-grows (jobs (tasksOf s)) (i + 1) (s .count) (omega arith))
@@ -104,7 +78,7 @@ pub record GatheredTo (s : Sheet) (i : ℕ) (periods budgets : List ℕ) (size n
   pub sums : (f : ℕ → ℕ → ℕ) → Additive f → sum size (λ p. f (getD periods p 0) (getD budgets p 0))
       ≡ sum n (λ j. cond (ltb (rank (tasksOf s) i) (rank (tasksOf s) j)) (f (period (tasksOf s) j) (budget (tasksOf s) j)) 0)
 
-module _ {s : Sheet} (ok : Taken s) (i : ℕ) (known : i < s .count) where
+module _ {s : Sheet} (ok : Sound s) (i : ℕ) (known : i < s .count) where
   abbrev ts : List Task
   ts = tasksOf s
 
@@ -126,7 +100,7 @@ module _ {s : Sheet} (ok : Taken s) (i : ℕ) (known : i < s .count) where
       split j l (no n) (no r) = rw (lt-leb (rank ts i) (rank ts j) (below (ℕ-discrete (rank ts j) (rank ts i))), ne-eqb j i n, le-ltb (rank ts i) (rank ts j) (omega arith))
         where
           below : Dec (rank ts j ≡ rank ts i) → rank ts j < rank ts i
-          below (yes e) = absurd (n (sound-proper (ok .sound) .ranks-differ j i l listed e))
+          below (yes e) = absurd (n (sound-proper ok .ranks-differ j i l listed e))
           below (no e) = omega arith
 
       own : sum (length ts) (λ j. cond (eqb j i) (f j) 0) ≡ f i
@@ -169,18 +143,18 @@ module _ {s : Sheet} (ok : Taken s) (i : ℕ) (known : i < s .count) where
     unfolding sum
     gather-in r = record {
       places = record {
-        few = omega (arith, g .within, ok .sound .count-most);
+        few = omega (arith, g .within, ok .count-most);
         periods-whole = length-set periods size _ ∙ g .places .periods-whole;
         budgets-whole = length-set budgets size _ ∙ g .places .budgets-whole;
         period-positive = below-more (λ p. 0 < getD (set periods size (t .period)) p 0) size
-            (λ p m. rw (others periods (t .period) p m) (g .places .period-positive p m)) (rw here-period (place-fine ok j l .period-positive));
+            (λ p m. rw (others periods (t .period) p m) (g .places .period-positive p m)) (rw here-period (place-allowed ok j l .period-positive));
         period-most = below-more (λ p. getD (set periods size (t .period)) p 0 ≤ 100000) size
-            (λ p m. rw (others periods (t .period) p m) (g .places .period-most p m)) (rw here-period (place-fine ok j l .period-most));
+            (λ p m. rw (others periods (t .period) p m) (g .places .period-most p m)) (rw here-period (place-allowed ok j l .period-most));
       };
       within = omega (arith, g .within);
       so-far = omega arith;
       budgets-most = below-more (λ p. getD (set budgets size (t .budget)) p 0 ≤ (j + 1) * 100000) size
-          (λ p m. rw (others budgets (t .budget) p m) (omega (arith, g .budgets-most p m))) (rw here-budget (omega (arith, place-fine ok j l)));
+          (λ p m. rw (others budgets (t .budget) p m) (omega (arith, g .budgets-most p m))) (rw here-budget (omega (arith, place-allowed ok j l)));
       sums = λ f add. rw (add-one size, add-one j) (ap₂ _+_
           (sum-eq size _ _ (λ p m. ap₂ f (others periods (t .period) p m) (others budgets (t .budget) p m)) ∙ g .sums f add)
           (ap₂ f here-period here-budget ∙ sym (same f true (lt-ltb _ _ r))));
@@ -190,10 +164,10 @@ module _ {s : Sheet} (ok : Taken s) (i : ℕ) (known : i < s .count) where
         others xs v p m = getD-set-other xs size p v 0 (λ z. omega arith)
 
         here-period : getD (set periods size (t .period)) size 0 ≡ t .period
-        here-period = getD-set-same periods size _ 0 (omega (arith, g .places .periods-whole, g .within, ok .sound .count-most))
+        here-period = getD-set-same periods size _ 0 (omega (arith, g .places .periods-whole, g .within, ok .count-most))
 
         here-budget : getD (set budgets size (t .budget)) size 0 ≡ t .budget
-        here-budget = getD-set-same budgets size _ 0 (omega (arith, g .places .budgets-whole, g .within, ok .sound .count-most))
+        here-budget = getD-set-same budgets size _ 0 (omega (arith, g .places .budgets-whole, g .within, ok .count-most))
 
     -- or the one that has its period, where only the budget changes.
     pub gather-with : getD (s .tasks) i none .rank < t .rank → (p : ℕ) → p < size → getD periods p 0 ≡ t .period
@@ -222,7 +196,7 @@ module _ {s : Sheet} (ok : Taken s) (i : ℕ) (known : i < s .count) where
         here = getD-set-same budgets p _ 0 (omega (arith, g .places .budgets-whole, g .places .few))
 
         most : (q : ℕ) → q < size → Dec (q ≡ p) → getD budgets′ q 0 ≤ (j + 1) * 100000
-        most q m (yes z) = rw (z, here) (omega (arith, g .budgets-most p known-place, place-fine ok j l))
+        most q m (yes z) = rw (z, here) (omega (arith, g .budgets-most p known-place, place-allowed ok j l))
         most q m (no z) = rw (getD-set-other budgets p q _ 0 z) (omega (arith, g .budgets-most q m))
 
         more : (f : ℕ → ℕ → ℕ) → Additive f → (q : ℕ) → Dec (q ≡ p)

@@ -9,12 +9,13 @@ use lib.Dec.{ltb}
 use lib.ListN.{length}
 use borrow.Author.Tests.{ltb-true, ltb-false, lt-ltb}
 use Rattle.theory.specs.declared.Task.{Task}
-use Rattle.theory.specs.Ranges.{least, least-passes, least-first, below-suc}
-use Rattle.theory.specs.Model.{release, rank, Proper, need, Slot, idle, busy, done}
-use Rattle.theory.specs.Simulate.{outranking, greatest}
-use Rattle.theory.specs.Responses.{full, fullBudget, jobs, Late, LateTask, Accepted}
-use Rattle.theory.specs.Hyperperiod.{jobs-released, released-jobs}
-use Rattle.schedule.specs.Answer.{late, lateTask, lateGreatest}
+use Rattle.arith.specs.Ranges.{least}
+use Rattle.arith.specs.RangeLaws.{least-passes, least-first, below-suc}
+use Rattle.theory.specs.Model.Schedule.{release, rank, Proper, need, Slot, idle, busy, done}
+use Rattle.theory.specs.Model.Greatest.{outranking, greatest}
+use Rattle.theory.specs.Model.Responses.{full, fullBudget, jobs, Late, LateTask, Accepted}
+use Rattle.theory.specs.Analysis.Hyperperiod.{jobs-released, released-jobs}
+use Rattle.schedule.specs.Calls.{late, lateTask, lateGreatest}
 
 -- One task
 

@@ -1,33 +1,31 @@
--- What the promise of `responses` comes to: when each answer is given, the entries of the table, and that the ticks add up.
+-- What the promise of `responses` comes to: when each answer is given, tasks that are taken, and that the ticks add up.
 use mathlib.Core.Path.{_≡_, refl, sym, ap, ap₂, _∙_, subst}
-use mathlib.Core.List.{List, [], _∷_, _++_}
+use mathlib.Core.List.{List, [], _∷_}
 use mathlib.Core.Bool.{Bool, true, false}
-use Prim.Native.Nat.{ℕ, zero, suc, _+_, _*_, _/_, _≤_, _<_}
+use Prim.Native.Nat.{ℕ, _+_, _*_, _/_, _≤_, _<_}
 use native.Mathlib.Omega.{arith}
 use lib.Dec.{ltb}
-use native.Mathlib.Decide.{ℕ-discrete}
-use lib.ListN.{length, getD, drop, length-append, List·getD-append}
-use lib.Seq.{getD-append-add}
+use lib.ListN.{length}
 use borrow.Author.Tests.{ltb-false}
+use Rattle.arith.specs.Ranges.{sum}
 use Rattle.theory.specs.declared.Task.{Task}
-use Rattle.theory.specs.Model.{none, Slot, idle, busy}
-use Rattle.theory.specs.Responses.{hyperperiod, allJobs, idleTicks, Accepted}
+use Rattle.theory.specs.Model.Schedule.{none, Slot, idle, busy, period, budget, done}
+use Rattle.theory.specs.Model.Responses.{hyperperiod, allJobs, idleTicks, Accepted, fullBudget, jobs}
+use Rattle.theory.specs.Analysis.Idle.{runs-exactly, idle-adds-up}
+use Rattle.answers.specs.Answers.{Answer, given, refused, fine, when, after, also}
+use Rattle.answers.specs.AnswerLaws.{when-fine, also-given}
 use Rattle.sheet.specs.declared.Sheet.{Sheet}
-use Rattle.sheet.specs.Answers.{Answer, given, refused, fine, when, after, also}
 use Rattle.sheet.specs.Calls.{judgeOf}
-use Rattle.sheet.specs.Sound.{judged-sound, when-fine, also-given}
+use Rattle.sheet.specs.SoundLaws.{judged-sound}
+use Rattle.sheet.specs.Tasks.{tasksOf}
+use Rattle.sheet.specs.TaskLaws.{tasks-length, task-allowed, sound-proper}
 use Rattle.schedule.specs.declared.answer.Totals.{Totals}
 use Rattle.schedule.specs.declared.answer.Size.{Size}
-use Rattle.schedule.specs.Answer.{mostTicks, mostJobs, tasksOf, lateGreatest, lateness, sizesOf, responsesOf}
+use Rattle.schedule.specs.Calls.{mostTicks, mostJobs, lateGreatest, lateness, sizesOf, responsesOf, rows}
+use Rattle.schedule.specs.Taken.{Taken}
 use Rattle.schedule.specs.Lateness.{GreatestLate, idle-accepted, busy-greatest, accepted-idle, greatest-busy}
-use Rattle.bits.specs.Lists.{length-listOf, getD-listOf}
-use Rattle.theory.specs.Ranges.{sum, sum-grows}
-use Rattle.theory.specs.Model.{period, budget, done}
-use Rattle.theory.specs.Responses.{fullBudget, response, jobs}
-use Rattle.theory.specs.Idle.{runs-exactly, idle-adds-up}
-use Rattle.schedule.specs.Answer.{row, rows, tableAfter}
-use Rattle.schedule.specs.Steps.{Holds}
-use Rattle.schedule.specs.Cases.{sizes-numbered, sizes-fit, Sized, sizes-given, sound-proper, responses-late, responses-full}
+use Rattle.schedule.specs.NumberLaws.{sizes-numbered}
+use Rattle.schedule.specs.CallLaws.{sizes-fit, Sized, sizes-given, responses-late, responses-full}
 
 -- When each answer is given
 
@@ -130,49 +128,18 @@ module _ (s : Sheet) (room : ℕ) where
       responses-late s room (sizes-fit s (f .judged-fine) (f .hyperperiod-most) (f .jobs-most)) (f .jobs-fit)
       (greatest-busy (sound-proper (judged-sound s (f .judged-fine))) (f .greatest-late))
 
--- The entries of the table
-
-module _ (ts : List Task) where
-  pub rows-length : (n : ℕ) → length (rows ts n) ≡ sum n (jobs ts)
-  unfolding rows sum
-  rows-length zero = refl
-  rows-length (suc n) = length-append (rows ts n) (row ts n) ∙ ap₂ _+_ (rows-length n) (length-listOf (jobs ts n) (response ts n))
-
-  -- Job k of task i has its response at place k of the task's row, which stands after the rows before it.
-  pub rows-entry : (n i k : ℕ) → i < n → k < jobs ts i → getD (rows ts n) (sum i (jobs ts) + k) 0 ≡ response ts i k
-  unfolding rows sum
-  rows-entry zero i k l m = absurd (omega arith)
-  rows-entry (suc n) i k l m = go (ℕ-discrete i n) (λ q. rows-entry n i k q m)
-    where
-      go : Dec (i ≡ n) → (i < n → getD (rows ts n) (sum i (jobs ts) + k) 0 ≡ response ts i k) → getD (rows ts n ++ row ts n) (sum i (jobs ts) + k) 0 ≡ response ts i k
-      go (yes e) rec =
-          ap (λ x. getD (rows ts n ++ row ts n) (x + k) 0) (ap (λ x. sum x (jobs ts)) e ∙ sym (rows-length n))
-          ∙ getD-append-add (rows ts n) (row ts n) k 0 ∙ getD-listOf (jobs ts n) (response ts n) k 0 (subst (λ x. k < jobs ts x) e m) ∙ ap (λ x. response ts x k) (sym e)
-      go (no e) rec = List·getD-append (rows ts n) (row ts n) 0 (sum i (jobs ts) + k) (omega (arith, rows-length n, sum-grows (jobs ts) (suc i) n (omega arith))) ∙ rec (omega arith)
-
--- Where the answer is given, the table holds it there.
-pub table-entry : (s : Sheet) (old : List ℕ) {totals : Totals} → responsesOf s (length old) ≡ given totals → (i k : ℕ) → i < length (tasksOf s) → k < jobs (tasksOf s) i
-    → getD (tableAfter (responsesOf s (length old)) (tasksOf s) old) (sum i (jobs (tasksOf s)) + k) 0 ≡ response (tasksOf s) i k
-unfolding sum
-table-entry s old e i k l m =
-    ap (λ x. getD (tableAfter x ts old) (sum i (jobs ts) + k) 0) e
-    ∙ List·getD-append (rows ts (length ts)) _ 0 (sum i (jobs ts) + k) (omega (arith, rows-length ts (length ts), sum-grows (jobs ts) (suc i) (length ts) l))
-    ∙ rows-entry ts (length ts) i k l m
-  where
-    ts : List Task
-    ts = tasksOf s
-
--- So it holds the rows.
-pub filled-holds : (s : Sheet) (old : List ℕ) {table : List ℕ} {totals : Totals} → responsesOf s (length old) ≡ given totals
-    → table ≡ tableAfter (responsesOf s (length old)) (tasksOf s) old → Holds (tasksOf s) table
-unfolding allJobs
-filled-holds s old {table} e q = record {
-  enough = omega (arith, ap length (q ∙ ap (λ a. tableAfter a ts old) e), length-append (rows ts (length ts)) (drop (allJobs ts) old), rows-length ts (length ts));
-  entry = λ i k l m. ap (λ xs. getD xs (sum i (jobs ts) + k) 0) q ∙ table-entry s old e i k l m;
-}
-  where
-    ts : List Task
-    ts = tasksOf s
+-- The tasks of a sheet that is answered are taken.
+pub given-taken : (s : Sheet) (room : ℕ) {totals : Totals} → responsesOf s room ≡ given totals → Taken (tasksOf s)
+given-taken s room e =
+    let g = responses-given s room e in
+    let sound = judged-sound s (g .judged-fine) in
+    record {
+      count-most = omega (arith, tasks-length sound, sound .count-most);
+      period-most = λ i l. task-allowed sound i l .period-most;
+      accepted = g .accepted;
+      short = g .hyperperiod-most;
+      few = g .jobs-most;
+    }
 
 -- The ticks add up
 

@@ -1,5 +1,5 @@
 // What the call and the functions under it answer.
-use sheet::Refusal;
+use answers::Refusal;
 
 // H, J and the idle ticks before H.
 pub struct Totals {

@@ -1,7 +1,7 @@
 // The job table: the response of every job in the full-budget schedule, row by row, with hyperperiod, job count and idle ticks;
 // or the first refusal. One task's row comes from a walk over the releases of its level, which is the task and those that outrank
 // it, with one number of state: the tick by which the level's work is done. What is answered and left in the table is defined in
-// specs/Answer.antt.
+// specs/Calls.antt.
 mod answer;
 
 use answer::Found;
@@ -12,22 +12,24 @@ pub use answer::Sizes;
 pub use answer::TaskResponses;
 pub use answer::Totals;
 use answer::Turn;
+use answers::Refusal;
+use answers::Verdict;
 use arith::Multiple;
-use sheet::Refusal;
 use sheet::Sheet;
-use sheet::Verdict;
 use theory::Task;
 ghost use mathlib.Core.Path.{_≡_};
 ghost use mathlib.Core.List.{_++_};
 ghost use Prim.Native.Nat.{suc, _≤_, _<_};
-ghost use lib.ListN.{getD, length, drop, replicate};
+ghost use lib.ListN.{length, drop, replicate};
 ghost use Rattle.arith.specs.Limit.{told, within};
-ghost use Rattle.theory.specs.Ranges.{maximum};
-ghost use Rattle.theory.specs.Responses.{hyperperiod, jobs, allJobs, taskResponse};
+ghost use Rattle.theory.specs.Model.Responses.{hyperperiod, jobs, allJobs, taskResponse};
 ghost use Rattle.sheet.specs.Calls.{places};
-ghost use Rattle.sheet.specs.Told.{refusalIn};
-ghost use Rattle.schedule.specs.Answer.{mostTicks, tasksOf, sizesOf, responsesOf, tableAfter, greatestAfter, toldSize, toldTotals};
-ghost use Rattle.schedule.specs.Steps.{Taken, Period, Holds, refusalOf, lateOf, coming, PlaceOf, Level, Ready, Turned, Walk, Walked, Places, RowFilled, Noted, FoundTo, Filled};
+ghost use Rattle.sheet.specs.Sound.{Sound};
+ghost use Rattle.sheet.specs.Tasks.{tasksOf};
+ghost use Rattle.schedule.specs.Calls.{mostTicks};
+ghost use Rattle.schedule.specs.Promises.{SizesPromise, SizesRefusalPromise, ResponsesPromise, ResponsesRefusalPromise, TaskResponsesPromise};
+ghost use Rattle.schedule.specs.Conditions.{Period, lateOf, coming, PlaceOf, Level, Ready, Turned, Walk, Walked, Places, RowFilled, Noted, FoundTo, Filled};
+ghost use Rattle.schedule.specs.Taken.{Holds};
 
 // "H at most 1,000,000; J at most 8,192"
 const MOST_TICKS: u32 = 1000000;
@@ -36,7 +38,7 @@ const MOST_JOBS: u32 = 8192;
 
 // The hyperperiod: the least common multiple of all periods, or that it is over its limit.
 fn hyperperiod(s: Sheet) -> Multiple
-    requires { ⌜ Taken s ⌝ }
+    requires { ⌜ Sound s ⌝ }
     ensures { λ r. ⌜ told r ≡ within mostTicks (hyperperiod (tasksOf s)) ⌝ }
 {
     let mut multiple = 1u32;
@@ -54,7 +56,7 @@ fn hyperperiod(s: Sheet) -> Multiple
 
 // The jobs of all tasks before tick h, the hyperperiod.
 fn job_count(s: Sheet, h: u32) -> u32
-    requires { ⌜ Taken s ⌝ ∗ ⌜ Period s h ⌝ }
+    requires { ⌜ Sound s ⌝ ∗ ⌜ Period s h ⌝ }
     ensures { λ r. ⌜ r ≡ allJobs (tasksOf s) ⌝ }
 {
     let n = s.count as usize;
@@ -67,23 +69,13 @@ fn job_count(s: Sheet, h: u32) -> u32
     jobs
 }
 
-// The refusal in a verdict that is not fine.
-fn verdict_refusal(v: Verdict) -> Refusal
-    ensures { λ r. ⌜ r ≡ refusalIn v ⌝ }
-{
-    let Verdict::No(r) = v else {
-        return Refusal::Number(0);
-    };
-    r
-}
-
 // H and J, for a sheet that is judged fine and keeps their limits.
 pub fn sizes(s: Sheet) -> Sizes
-    ensures { λ r. ⌜ toldSize r ≡ sizesOf s ⌝ }
+    ensures { λ r. ⌜ SizesPromise s r ⌝ }
 {
     let v = sheet::judge(s);
     let Verdict::Fine = v else {
-        return Sizes::No(verdict_refusal(v));
+        return Sizes::No(answers::refusal_of(v));
     };
     let m = hyperperiod(s);
     let Multiple::Is(h) = m else {
@@ -100,7 +92,7 @@ pub fn sizes(s: Sheet) -> Sizes
 }
 
 // The place that holds a period, or the one after all places.
-fn place_of(periods: &[u32; 16], size: usize, period: u32) -> usize
+fn period_place(periods: &[u32; 16], size: usize, period: u32) -> usize
     requires { ⌜ (size ≤ 16) × (length (now periods) ≡ 16) ⌝ }
     ensures { λ r. ⌜ PlaceOf (now (periods .entry)) size period r ⌝ }
 {
@@ -116,8 +108,8 @@ fn place_of(periods: &[u32; 16], size: usize, period: u32) -> usize
 
 // The periods of the tasks that outrank task i, how many they are, and the budgets of each. Tasks of one period are released
 // together, so they take one place.
-fn gather(s: Sheet, i: usize, periods: &mut [u32; 16], budgets: &mut [u32; 16]) -> usize
-    requires { ⌜ Taken s ⌝ ∗ ⌜ (i < s .count) × (length (now periods) ≡ 16) × (length (now budgets) ≡ 16) ⌝ }
+fn gather_level(s: Sheet, i: usize, periods: &mut [u32; 16], budgets: &mut [u32; 16]) -> usize
+    requires { ⌜ Sound s ⌝ ∗ ⌜ (i < s .count) × (length (now periods) ≡ 16) × (length (now budgets) ≡ 16) ⌝ }
     ensures { λ r. ⌜ Level (tasksOf s) i (now (periods .exit)) (now (budgets .exit)) r ⌝ }
 {
     let n = s.count as usize;
@@ -127,7 +119,7 @@ fn gather(s: Sheet, i: usize, periods: &mut [u32; 16], budgets: &mut [u32; 16]) 
     while j < n {
         let t = s.tasks[j];
         if own < t.rank {
-            let p = place_of(&*periods, size, t.period);
+            let p = period_place(&*periods, size, t.period);
             if p < size {
                 budgets[p] += t.budget;
             } else {
@@ -183,7 +175,7 @@ fn turn(
 
 // Fills the row of a task with the responses of its jobs, by a walk over the releases of its level up to `h`: the level's work is
 // done by tick `clear`, and where that is before the next release a job of the task is done with it, and the gap ends at rest.
-fn walk(
+fn walk_row(
     periods: &[u32; 16],
     budgets: &[u32; 16],
     size: usize,
@@ -225,18 +217,18 @@ fn walk(
 
 // Fills the row of task i, from the numbers of its level.
 fn fill_row(s: Sheet, i: usize, h: u32, row: &mut [u32]) -> Row
-    requires { ⌜ Taken s ⌝ ∗ ⌜ Period s h ⌝ ∗ ⌜ (i < s .count) × (length (now row) ≡ jobs (tasksOf s) i) ⌝ }
+    requires { ⌜ Sound s ⌝ ∗ ⌜ Period s h ⌝ ∗ ⌜ (i < s .count) × (length (now row) ≡ jobs (tasksOf s) i) ⌝ }
     ensures { λ r. ⌜ RowFilled (tasksOf s) i (now (row .exit)) r ⌝ }
 {
     let mut periods = [0u32; 16];
     let mut budgets = [0u32; 16];
-    let size = gather(s, i, &mut periods, &mut budgets);
-    walk(&periods, &budgets, size, s.tasks[i], h, &mut *row)
+    let size = gather_level(s, i, &mut periods, &mut budgets);
+    walk_row(&periods, &budgets, size, s.tasks[i], h, &mut *row)
 }
 
 // What the rows tell up to that of task i, from what those before it and its own tell.
 fn noted(s: Sheet, found: Found, i: usize, row: Row) -> Found
-    requires { ⌜ Taken s ⌝ ∗ ⌜ i < s .count ⌝ ∗ ⌜ FoundTo (tasksOf s) i found ⌝ ∗ ⌜ Noted (tasksOf s) i row ⌝ }
+    requires { ⌜ Sound s ⌝ ∗ ⌜ i < s .count ⌝ ∗ ⌜ FoundTo (tasksOf s) i found ⌝ ∗ ⌜ Noted (tasksOf s) i row ⌝ }
     ensures { λ r. ⌜ FoundTo (tasksOf s) (suc i) r ⌝ }
 {
     let index = i as u8;
@@ -266,7 +258,7 @@ fn noted(s: Sheet, found: Found, i: usize, row: Row) -> Found
 
 // Fills the table row by row, each in its own part of the table.
 fn fill_rows(s: Sheet, h: u32, table: &mut [u32]) -> Found
-    requires { ⌜ Taken s ⌝ ∗ ⌜ Period s h ⌝ ∗ ⌜ allJobs (tasksOf s) ≤ length (now table) ⌝ }
+    requires { ⌜ Sound s ⌝ ∗ ⌜ Period s h ⌝ ∗ ⌜ allJobs (tasksOf s) ≤ length (now table) ⌝ }
     ensures { λ r. ⌜ Filled (tasksOf s) (s .count) (allJobs (tasksOf s)) (now (table .entry)) (now (table .exit)) r ⌝ }
 {
     let n = s.count as usize;
@@ -295,14 +287,20 @@ fn clear(table: &mut [u32], n: usize)
     }
 }
 
-// The refusal in an answer that gives no sizes.
-fn sizes_refusal(z: Sizes) -> Refusal
-    ensures { λ r. ⌜ r ≡ refusalOf z ⌝ }
+// The refusal in an answer that gives no sizes. Number 0, which no refusal has, stands for none.
+pub fn sizes_refusal(z: Sizes) -> Refusal
+    ensures { λ r. ⌜ SizesRefusalPromise z r ⌝ }
 {
     let Sizes::No(r) = z else {
         return Refusal::Number(0);
     };
     r
+}
+
+fn wide(x: u8) -> u32
+    ensures { λ r. ⌜ r ≡ x ⌝ }
+{
+    x as u32
 }
 
 // The refusal of a sheet with a late task.
@@ -312,13 +310,12 @@ fn found_refusal(f: Found) -> Refusal
     let Found::Late(i) = f else {
         return Refusal::Number(0);
     };
-    Refusal::Late(i)
+    Refusal::With(15, wide(i))
 }
 
 // The response of each job before H, "task by task in sheet order, each task's jobs in release order", with H, J and the idle ticks.
 pub fn responses(s: Sheet, table: &mut [u32]) -> Responses
-    ensures { λ r. ⌜ toldTotals r ≡ responsesOf s (length (now (table .entry))) ⌝ }
-    ensures { λ r. ⌜ now (table .exit) ≡ tableAfter (responsesOf s (length (now (table .entry)))) (tasksOf s) (now (table .entry)) ⌝ }
+    ensures { λ r. ⌜ ResponsesPromise s (now (table .entry)) r (now (table .exit)) ⌝ }
 {
     let z = sizes(s);
     let Sizes::Of(size) = z else {
@@ -340,24 +337,19 @@ pub fn responses(s: Sheet, table: &mut [u32]) -> Responses
     })
 }
 
-// The greatest entry of a row, 0 of none.
-pub fn greatest(row: &[u32]) -> u32
-    ensures { λ r. ⌜ r ≡ maximum (length (now (row .entry))) (λ k. getD (now (row .entry)) k 0) ⌝ }
+// The refusal in an answer that gives no table; number 0 for none.
+pub fn responses_refusal(a: Responses) -> Refusal
+    ensures { λ r. ⌜ ResponsesRefusalPromise a r ⌝ }
 {
-    let mut most = 0u32;
-    let mut k = 0usize;
-    while k < row.len() {
-        if most < row[k] {
-            most = row[k];
-        }
-        k += 1;
-    }
-    most
+    let Responses::No(r) = a else {
+        return Refusal::Number(0);
+    };
+    r
 }
 
 // R of each task, in sixteen places, from the rows of a table.
 fn greatest_each(s: Sheet, h: u32, table: &[u32]) -> [u32; 16]
-    requires { ⌜ Taken s ⌝ ∗ ⌜ Period s h ⌝ ∗ ⌜ Holds (tasksOf s) (now table) ⌝ }
+    requires { ⌜ Sound s ⌝ ∗ ⌜ Period s h ⌝ ∗ ⌜ Holds (tasksOf s) (now table) ⌝ }
     ensures { λ r. ⌜ r ≡ places 0 (s .count) (taskResponse (tasksOf s)) ⌝ }
 {
     let n = s.count as usize;
@@ -366,7 +358,7 @@ fn greatest_each(s: Sheet, h: u32, table: &[u32]) -> [u32; 16]
     let mut i = 0usize;
     while i < n {
         let end = from + (h / s.tasks[i].period) as usize;
-        each[i] = greatest(&table[from..end]);
+        each[i] = arith::greatest(&table[from..end]);
         from = end;
         i += 1;
     }
@@ -375,9 +367,7 @@ fn greatest_each(s: Sheet, h: u32, table: &[u32]) -> [u32; 16]
 
 // The job table as `responses` answers and leaves it, with "R, the greatest response" of each task in its place; zeros where it is refused.
 pub fn task_responses(s: Sheet, table: &mut [u32]) -> TaskResponses
-    ensures { λ r. ⌜ toldTotals (r .answer) ≡ responsesOf s (length (now (table .entry))) ⌝ }
-    ensures { λ r. ⌜ now (table .exit) ≡ tableAfter (responsesOf s (length (now (table .entry)))) (tasksOf s) (now (table .entry)) ⌝ }
-    ensures { λ r. ⌜ r .greatest ≡ greatestAfter (responsesOf s (length (now (table .entry)))) s ⌝ }
+    ensures { λ r. ⌜ TaskResponsesPromise s (now (table .entry)) r (now (table .exit)) ⌝ }
 {
     let answer = responses(s, &mut *table);
     let Responses::Table(totals) = answer else {

@@ -1,41 +1,21 @@
--- Laws of answers: what a refusal, or none, on the way comes to.
-use mathlib.Core.Path.{_≡_, refl, sym, ap, _∙_}
-use mathlib.Core.List.{List, []}
+-- Laws of judgements: the fields that are left, a field that the bytes may end in, and what a given answer tells of the code's.
+use mathlib.Core.Path.{_≡_, refl, ap}
+use mathlib.Core.List.{[]}
 use Prim.Native.Nat.{ℕ, _+_, _-_, _≤_, _<_}
 use borrow.Author.Tests.{lt-ltb, le-ltb}
 use Rattle.sheet.specs.declared.Sheet.{Sheet}
 use Rattle.sheet.specs.declared.Field.{Field}
-use Rattle.sheet.specs.declared.Refusal.{Refusal}
-use Rattle.sheet.specs.declared.Refusal.the-variants.{Number, Late}
-use Rattle.sheet.specs.declared.Verdict.{Verdict}
-use Rattle.sheet.specs.declared.Verdict.the-variants.{Fine, No}
-use Rattle.sheet.specs.Answers.{Answer, refused, Judgement, fine, when, also, first}
-use Rattle.sheet.specs.Fields.{width, place, judged}
-use Rattle.sheet.specs.Steps.{next}
+use Rattle.sheet.specs.declared.Written.{Written}
+use Rattle.sheet.specs.declared.Written.the-variants.{Bytes, No as NoBytes}
+use Rattle.answers.specs.declared.Verdict.{Verdict}
+use Rattle.answers.specs.declared.Verdict.the-variants.{Fine, No}
+use Rattle.answers.specs.Answers.{given, refused, Judgement, fine, when, also, first, told}
+use Rattle.answers.specs.AnswerLaws.{refused-given}
+use Rattle.sheet.specs.Answers.{toldBytes}
+use Rattle.sheet.specs.Fields.{width, place, value, judged}
+use Rattle.sheet.specs.Order.{next}
 use Rattle.sheet.specs.FieldLaws.{onward, onward-step}
-use Rattle.sheet.specs.Calls.{bufferAfter, judgedIn}
-use Rattle.sheet.specs.Told.{refusal, told, refusalIn, blank, sheetIn}
-
--- ---- a verdict, and what would come after it
-
-pub also-no : {A : Type 0} {v : Verdict} {r : Refusal} {j : Judgement} (a : Answer A) → told v ≡ j → v ≡ No r → also j a ≡ refusal r
-also-no {r = Number n} a e q = ap (λ j. also j a) (sym e ∙ ap told q)
-also-no {r = Late i} a e q = ap (λ j. also j a) (sym e ∙ ap told q)
-
-pub also-fine : {A : Type 0} {v : Verdict} {j : Judgement} (a : Answer A) → told v ≡ j → v ≡ Fine → also j a ≡ a
-also-fine a e q = ap (λ j. also j a) (sym e ∙ ap told q)
-
-pub refusal-is : {v : Verdict} {r q : Refusal} → q ≡ refusalIn v → v ≡ No r → q ≡ r
-refusal-is e p = e ∙ ap refusalIn p
-
--- a refusal leaves a blank sheet, and the buffer as it was
-pub sheetIn-no : (r : Refusal) → sheetIn (refusal r) ≡ blank
-sheetIn-no (Number n) = refl
-sheetIn-no (Late i) = refl
-
-pub bufferAfter-no : (r : Refusal) (s : Sheet) (old : List ℕ) → bufferAfter (refusal r) s old ≡ old
-bufferAfter-no (Number n) s old = refl
-bufferAfter-no (Late i) s old = refl
+use Rattle.sheet.specs.Calls.{fieldsOf, judgedIn}
 
 -- ---- the first of the fields that are left
 
@@ -50,8 +30,18 @@ first-none judge n left f e = ap (λ k. first judge (onward n f k)) e
 -- ---- a field in bytes that may end inside it
 
 module _ (room : ℕ) (s : Sheet) (f : Field) where
-  pub judged-short : room < place (s .count) f + width f → judgedIn room s f ≡ refused 1 []
-  judged-short h = ap (λ b. also (when b 1) (judged s f)) (lt-ltb room (place (s .count) f + width f) h)
+  pub judged-short : room < place (fieldsOf s) f + width f → judgedIn room s f ≡ refused 1 []
+  judged-short h = ap (λ b. also (when b 1) (judged (value s) f)) (lt-ltb room (place (fieldsOf s) f + width f) h)
 
-  pub judged-whole : place (s .count) f + width f ≤ room → judgedIn room s f ≡ judged s f
-  judged-whole h = ap (λ b. also (when b 1) (judged s f)) (le-ltb room (place (s .count) f + width f) h)
+  pub judged-whole : place (fieldsOf s) f + width f ≤ room → judgedIn room s f ≡ judged (value s) f
+  judged-whole h = ap (λ b. also (when b 1) (judged (value s) f)) (le-ltb room (place (fieldsOf s) f + width f) h)
+
+-- ---- what a given answer tells of the code's
+
+pub given-fine : {A : Type 0} (v : Verdict) (a : A) {b : A} → also (told v) (given a) ≡ given b → v ≡ Fine
+given-fine Fine a e = refl
+given-fine (No r) a e = refused-given e
+
+pub bytes-told : (w : Written) (n : ℕ) → toldBytes w ≡ given n → w ≡ Bytes n
+bytes-told (Bytes m) n e = let q : m ≡ n = cc in ap Bytes q
+bytes-told (NoBytes r) n e = refused-given e

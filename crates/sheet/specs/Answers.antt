@@ -1,35 +1,31 @@
--- What a call answers, in document 01's terms.
-use mathlib.Core.Bool.{Bool, true, false}
-use mathlib.Core.List.{List, [], _∷_}
+-- Document 01's answer for each case of the code's enums.
 use Prim.Native.Nat.{ℕ}
+use Rattle.theory.specs.Model.Schedule.{none}
+use Rattle.sheet.specs.declared.Sheet.{Sheet}
+use Rattle.sheet.specs.declared.Reading.{Reading}
+use Rattle.sheet.specs.declared.Written.{Written}
+use Rattle.sheet.specs.declared.Written.the-variants.{Bytes, No as NoBytes}
+use Rattle.answers.specs.declared.Refusal.{Refusal}
+use Rattle.answers.specs.declared.Refusal.the-variants.{Number}
+use Rattle.answers.specs.Answers.{Answer, given, refused, also, refusal, told}
+use Rattle.sheet.specs.Calls.{places}
 
--- "A refusal returns its number", and the values that go with it: a value, or a refusal.
-pub data Answer (S : Type 0) : Type 0 where
-  given : S → Answer S
-  refused : (number : ℕ) (values : List ℕ) → Answer S
+abbrev pub toldBytes : Written → Answer ℕ
+toldBytes (Bytes size) = given size
+toldBytes (NoBytes r) = refusal r
 
--- What one judgement finds: nothing against it, or a refusal.
-abbrev pub Judgement : Type 0
-Judgement = Answer (Unit {0})
+-- The refusal in an answer of the writer; number 0, which no refusal has, for none.
+abbrev pub noBytes : Written → Refusal
+noBytes (Bytes size) = Number 0
+noBytes (NoBytes r) = r
 
-abbrev pub fine : Judgement
-fine = given tt
+abbrev pub toldSheet : Reading → Answer Sheet
+toldSheet r = also (told (r .verdict)) (given (r .sheet))
 
--- "given when"
-abbrev pub when : Bool → ℕ → Judgement
-when true number = refused number []
-when false number = fine
+-- A sheet with nothing on it stands beside a refused reading.
+abbrev pub blank : Sheet
+blank = record { tasks = places none 0 (λ i. none); chain = places 0 0 (λ i. 0); count = 0; length = 0 }
 
--- "a refusal met on the way is handed up unchanged"
-abbrev pub after : {A B : Type 0} → Answer A → (A → Answer B) → Answer B
-after (given a) next = next a
-after (refused number values) next = refused number values
-
--- one judgement, and then another
-abbrev pub also : {A : Type 0} → Judgement → Answer A → Answer A
-also j a = after j (λ u. a)
-
--- Judgements in order: the first refusal counts.
-unfoldable pub first : {F : Type 0} → (F → Judgement) → List F → Judgement
-first judge [] = fine
-first judge (f ∷ fs) = also (judge f) (first judge fs)
+abbrev pub sheetIn : Answer Sheet → Sheet
+sheetIn (given s) = s
+sheetIn (refused number values) = blank

@@ -1,17 +1,17 @@
 -- What reading, judging and writing a timing sheet answer, and what they leave in memory.
 use mathlib.Core.Bool.{Bool, cond}
 use mathlib.Core.List.{List, [], _∷_, _++_}
-use Prim.Native.Nat.{ℕ, _+_, _-_, _*_}
+use Prim.Native.Nat.{ℕ, _+_, _-_, _*_, _<_}
 use lib.Dec.{ltb}
 use lib.ListN.{length}
-use Rattle.bits.specs.Bits.{bits, unpack, number, listOf, bytesFor, written}
+use Rattle.bits.specs.Bits.{bits, unpack, number, listOf, bytesFor, bytesOf, written}
 use Rattle.theory.specs.declared.Task.{Task}
-use Rattle.theory.specs.Model.{none}
+use Rattle.theory.specs.Model.Schedule.{none}
 use Rattle.sheet.specs.declared.Sheet.{Sheet}
 use Rattle.sheet.specs.declared.Field.{Field}
 use Rattle.sheet.specs.declared.Field.the-variants.{Count, Period, Budget, Rank, Length, Entry}
-use Rattle.sheet.specs.Answers.{Answer, given, refused, Judgement, when, also, first}
-use Rattle.sheet.specs.Fields.{fields, width, place, value, judged}
+use Rattle.answers.specs.Answers.{Answer, given, refused, Judgement, when, also, first}
+use Rattle.sheet.specs.Fields.{Values, fields, width, widths, place, value, judged}
 
 -- "all sixteen task places and sixteen chain places": the first k as f says, "unused ones zero".
 abbrev pub places : {A : Type 0} → A → ℕ → (ℕ → A) → List A
@@ -25,20 +25,24 @@ fieldsOf s = fields (s .count) (s .length)
 
 -- "A sheet handed over in memory is judged for 2 to 8 in the same field order."
 unfoldable pub judgeOf : Sheet → Judgement
-judgeOf s = first (judged s) (fieldsOf s)
+judgeOf s = first (judged (value s)) (fieldsOf s)
 
 -- ---- its bits
 
-unfoldable pub bitsOf : Sheet → List Field → List Bool
-bitsOf s [] = []
-bitsOf s (f ∷ fs) = bits (width f) (value s f) ++ bitsOf s fs
+unfoldable pub bitsOf : Values → List Field → List Bool
+bitsOf v [] = []
+bitsOf v (f ∷ fs) = bits (width f) (v f) ++ bitsOf v fs
 
 abbrev pub packed : Sheet → List Bool
-packed s = bitsOf s (fieldsOf s)
+packed s = bitsOf (value s) (fieldsOf s)
+
+-- The bytes of a sheet.
+abbrev pub encoded : Sheet → List ℕ
+encoded s = bytesOf (packed s)
 
 -- The last field's end.
 abbrev pub endOf : Sheet → ℕ
-endOf s = place (s .count) (Entry (s .length))
+endOf s = widths (fieldsOf s)
 
 abbrev pub sizeOf : Sheet → ℕ
 sizeOf s = bytesFor (endOf s)
@@ -52,34 +56,51 @@ abbrev pub bufferAfter : Answer ℕ → Sheet → List ℕ → List ℕ
 bufferAfter (given size) s old = written (packed s) old
 bufferAfter (refused number values) s old = old
 
--- ---- bytes read
+-- ---- a sheet by its values
 
--- What bits spell in a field of a sheet of n tasks.
-abbrev pub spelt : List Bool → ℕ → Field → ℕ
-spelt bs n f = number bs (place n f) (width f)
+-- "its ranks are 8-bit numbers": what the struct's type says of every sheet in memory.
+abbrev pub RanksFit : Sheet → Type 0
+RanksFit s = (i : ℕ) → value s (Rank i) < 256
 
-abbrev pub taskSpelt : List Bool → ℕ → ℕ → Task
-taskSpelt bs n i = record { period = spelt bs n (Period i); budget = spelt bs n (Budget i); rank = spelt bs n (Rank i) }
+-- The sheet that holds these values, its unused places zero.
+abbrev pub taskBy : Values → ℕ → Task
+taskBy v i = record { period = v (Period i); budget = v (Budget i); rank = v (Rank i) }
 
-abbrev pub entrySpelt : List Bool → ℕ → ℕ → ℕ
-entrySpelt bs n i = spelt bs n (Entry i)
-
--- The sheet that bits spell, taken for granted.
-abbrev pub sheetSpelt : List Bool → ℕ → ℕ → Sheet
-sheetSpelt bs n m =
+abbrev pub sheetBy : Values → Sheet
+sheetBy v =
     record {
-      tasks = places none n (taskSpelt bs n);
-      chain = places 0 m (entrySpelt bs n);
-      count = n;
-      length = m;
+      tasks = places none (v Count) (taskBy v);
+      chain = places 0 (v Length) (λ i. v (Entry i));
+      count = v Count;
+      length = v Length;
     }
 
-unfoldable pub sheetOf : List Bool → Sheet
-sheetOf bs = sheetSpelt bs (spelt bs 0 Count) (spelt bs (spelt bs 0 Count) Length)
+abbrev pub cleared : Sheet → Sheet
+cleared s = sheetBy (value s)
+
+-- ---- bytes read
+
+-- What bits spell in a field of a sheet with these fields.
+abbrev pub speltIn : List Bool → List Field → Values
+speltIn bs fs f = number bs (place fs f) (width f)
+
+-- A count stands before what it counts: it is where it would be if nothing followed.
+abbrev pub countSpelt : List Bool → ℕ
+countSpelt bs = speltIn bs (fields 0 0) Count
+
+abbrev pub lengthSpelt : List Bool → ℕ
+lengthSpelt bs = speltIn bs (fields (countSpelt bs) 0) Length
+
+unfoldable pub spelt : List Bool → Values
+spelt bs = speltIn bs (fields (countSpelt bs) (lengthSpelt bs))
+
+-- The sheet that bits spell, taken for granted.
+abbrev pub sheetOf : List Bool → Sheet
+sheetOf bs = sheetBy (spelt bs)
 
 -- "each field when it is read: 1 first, then the field's own number"
 abbrev pub judgedIn : ℕ → Sheet → Field → Judgement
-judgedIn room s f = also (when (ltb room (place (s .count) f + width f)) 1) (judged s f)
+judgedIn room s f = also (when (ltb room (place (fieldsOf s) f + width f)) 1) (judged (value s) f)
 
 -- "a bit after the last field is 1, or a byte follows the last needed"
 abbrev pub tailOf : List ℕ → ℕ → Judgement

@@ -1,11 +1,11 @@
 -- What holds of every field of a sheet: by the list of them, or field by field.
 use mathlib.Core.Path.{_≡_, refl, ap₂, subst}
 use mathlib.Core.List.{List, [], _∷_, _++_}
-use Prim.Native.Nat.{ℕ, zero, suc, _+_, _<_}
+use Prim.Native.Nat.{ℕ, zero, suc, _+_, _≤_, _<_}
 use native.Mathlib.Omega.{arith}
 use Rattle.sheet.specs.declared.Field.{Field}
 use Rattle.sheet.specs.declared.Field.the-variants.{Count, Period, Budget, Rank, Length, Entry}
-use Rattle.sheet.specs.Answers.{given, refused, Judgement, fine, also, first}
+use Rattle.answers.specs.Answers.{given, refused, Judgement, fine, also, first}
 use Rattle.sheet.specs.Fields.{taskFields, entryFields, fields}
 
 abbrev pub All : (Field → Type 0) → List Field → Type 0
@@ -70,6 +70,20 @@ module _ (P : Field → Type 0) where
         of-length = t .1 .0;
         of-entry = λ i l. subst (λ x. P (Entry x)) (from i) (all-entries 0 m (t .1 .1) i l);
       }
+
+pub each-map : (P Q : Field → Type 0) (n m : ℕ) → ((f : Field) → P f → Q f) → Each P n m → Each Q n m
+each-map P Q n m h e = all-each Q (all-map P Q (fields n m) h (each-all P e))
+
+pub each-fewer : (P : Field → Type 0) (n m : ℕ) {k l : ℕ} → n ≤ k → m ≤ l → Each P k l → Each P n m
+each-fewer P n m h g e =
+    record {
+      of-count = e .of-count;
+      of-period = λ i b. e .of-period i (omega arith);
+      of-budget = λ i b. e .of-budget i (omega arith);
+      of-rank = λ i b. e .of-rank i (omega arith);
+      of-length = e .of-length;
+      of-entry = λ i b. e .of-entry i (omega arith);
+    }
 
 -- ---- judgements of every field
 

@@ -1,4 +1,4 @@
--- Laws of the fields: each follows the one before it, and begins where that one ends.
+-- Laws of the fields: which are the same, each follows the one before it, and one value among others.
 use mathlib.Core.Path.{_≡_, refl, sym, ap, ap₂, _∙_}
 use mathlib.Core.Bool.{Bool, true, false, cond}
 use mathlib.Core.List.{List, [], _∷_, _++_}
@@ -6,11 +6,11 @@ use Prim.Native.Nat.{ℕ, zero, suc, _+_, _-_, _*_, _≤_, _<_}
 use native.Mathlib.Numerals.{add-one}
 use native.Mathlib.Omega.{arith}
 use lib.Dec.{ltb, eqb}
-use borrow.Author.Tests.{lt-ltb, le-ltb, eq-eqb, ne-eqb}
+use borrow.Author.Tests.{lt-ltb, le-ltb, eq-eqb, ne-eqb, eqb-true}
 use Rattle.sheet.specs.declared.Field.{Field}
 use Rattle.sheet.specs.declared.Field.the-variants.{Count, Period, Budget, Rank, Length, Entry}
-use Rattle.sheet.specs.Fields.{taskFields, entryFields, fields, width, place, among}
-use Rattle.sheet.specs.Steps.{opening, next, index}
+use Rattle.sheet.specs.Fields.{taskFields, entryFields, fields, width, kind, index, same, among}
+use Rattle.sheet.specs.Order.{opening, next}
 
 -- ---- one field
 
@@ -22,13 +22,33 @@ width-small (Rank i) = (omega arith, omega arith)
 width-small Length = (omega arith, omega arith)
 width-small (Entry i) = (omega arith, omega arith)
 
-pub end-small : (n : ℕ) (f : Field) → n < 256 → index f ≤ 1022 → place n f + width f ≤ 60000
-end-small n Count h g = omega arith
-end-small n (Period i) h g = omega arith
-end-small n (Budget i) h g = omega arith
-end-small n (Rank i) h g = omega arith
-end-small n Length h g = omega arith
-end-small n (Entry i) h g = omega arith
+pub same-itself : (f : Field) → same f f ≡ true
+same-itself f = ap₂ (λ a b. cond a b false) (eq-eqb (kind f) (kind f) refl) (eq-eqb (index f) (index f) refl)
+
+-- kind and index tell the field
+fieldOf : ℕ → ℕ → Field
+fieldOf zero i = Count
+fieldOf (suc zero) i = Period i
+fieldOf (suc (suc zero)) i = Budget i
+fieldOf (suc (suc (suc zero))) i = Rank i
+fieldOf (suc (suc (suc (suc zero)))) i = Length
+fieldOf (suc (suc (suc (suc (suc k))))) i = Entry i
+
+field-of : (f : Field) → fieldOf (kind f) (index f) ≡ f
+unfolding fieldOf
+field-of Count = refl
+field-of (Period i) = refl
+field-of (Budget i) = refl
+field-of (Rank i) = refl
+field-of Length = refl
+field-of (Entry i) = refl
+
+pub same-is : (f g : Field) → same f g ≡ true → f ≡ g
+same-is f g e = go (eqb (kind f) (kind g)) refl e
+  where
+    go : (b : Bool) → eqb (kind f) (kind g) ≡ b → cond b (eqb (index f) (index g)) false ≡ true → f ≡ g
+    go true q h = sym (field-of f) ∙ ap₂ fieldOf (eqb-true (kind f) (kind g) q) (eqb-true (index f) (index g) h) ∙ field-of g
+    go false q h = let z : _≡_ {A = ℕ} 0 1 = cc in absurd (omega arith)
 
 index-opening : (n i : ℕ) → index (opening n i) ≤ i
 index-opening n i = go (ltb i n)

@@ -1,31 +1,27 @@
--- Laws of the calls' answers: a sheet in enough room, and what an accepted sheet is known to be.
+-- A sheet in room for all of its fields is judged as in memory.
 use mathlib.Core.Path.{_≡_}
+use mathlib.Core.List.{List}
 use Prim.Native.Nat.{ℕ, _+_, _≤_}
 use native.Mathlib.Omega.{arith}
 use Rattle.sheet.specs.declared.Sheet.{Sheet}
-use Rattle.sheet.specs.declared.Field.the-variants.{Entry}
-use Rattle.sheet.specs.Answers.{first}
+use Rattle.sheet.specs.declared.Field.{Field}
+use Rattle.answers.specs.Answers.{first}
 use Rattle.sheet.specs.AnswerLaws.{judged-whole}
-use Rattle.sheet.specs.Fields.{width, place, judged}
+use Rattle.sheet.specs.Fields.{width, widths, place, value, judged}
 use Rattle.sheet.specs.Calls.{fieldsOf, judgeOf, judgedIn, endOf}
-use Rattle.sheet.specs.EachLaws.{Each, all-map, each-all, first-same}
+use Rattle.sheet.specs.EachLaws.{All, all-map, first-same}
+use Rattle.sheet.specs.FormatLaws.{in-place-ends, fields-in-place}
 
--- every field ends by the end of the sheet
-pub ends-by : (n m end : ℕ) → place n (Entry m) ≤ end → Each (λ f. place n f + width f ≤ end) n m
-ends-by n m end h =
-    record {
-      of-count = omega arith;
-      of-period = λ i l. omega arith;
-      of-budget = λ i l. omega arith;
-      of-rank = λ i l. omega arith;
-      of-length = omega arith;
-      of-entry = λ i l. omega arith;
-    }
+-- fields that end within the room are judged as in memory
+pub roomy-fields : (s : Sheet) (room : ℕ) (fs : List Field) → All (λ f. place (fieldsOf s) f + width f ≤ room) fs → first (judgedIn room s) fs ≡ first (judged (value s)) fs
+roomy-fields s room fs inside =
+    first-same (judgedIn room s) (judged (value s)) fs
+    (all-map (λ f. place (fieldsOf s) f + width f ≤ room) (λ f. judgedIn room s f ≡ judged (value s) f) fs (judged-whole room s) inside)
 
--- in room for all of them the fields are judged as in memory
 pub roomy : (s : Sheet) (room : ℕ) → endOf s ≤ room → first (judgedIn room s) (fieldsOf s) ≡ judgeOf s
 unfolding judgeOf
 roomy s room h =
-    let n = s .count in
-    first-same (judgedIn room s) (judged s) (fieldsOf s)
-    (all-map (λ f. place n f + width f ≤ room) (λ f. judgedIn room s f ≡ judged s f) (fieldsOf s) (judged-whole room s) (each-all (λ f. place n f + width f ≤ room) (ends-by n (s .length) room h)))
+    let place-of = place (fieldsOf s) in
+    roomy-fields s room (fieldsOf s)
+    (all-map (λ f. place-of f + width f ≤ 0 + widths (fieldsOf s)) (λ f. place-of f + width f ≤ room) (fieldsOf s) (λ f e. omega arith)
+    (in-place-ends place-of (fieldsOf s) 0 (fields-in-place (s .count) (s .length))))

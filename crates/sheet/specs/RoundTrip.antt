@@ -1,277 +1,113 @@
--- Writing and reading a sheet are inverse: what is written is read back, and what is read is what would be written.
-use mathlib.Core.Path.{_≡_, refl, sym, ap, ap₂, _∙_, subst}
+-- Writing and reading a sheet are inverse, from call to call.
+use mathlib.Core.Path.{_≡_, refl, sym, ap, _∙_, subst}
 use mathlib.Core.Logic.{_↔_}
-use mathlib.Core.Bool.{Bool, false}
-use mathlib.Core.List.{List, []}
-use Prim.Native.Nat.{ℕ, _+_, _-_, _*_, _^_, _≤_, _<_}
+use mathlib.Core.List.{List, _++_}
+use Prim.Native.Nat.{ℕ, _≤_, _<_}
 use native.Mathlib.Omega.{arith}
-use native.Mathlib.Decide.{decLt}
-use lib.Dec.{ltb, leb}
-use lib.ListN.{length, getD, List·getD-eq-default}
-use borrow.Author.Tests.{ltb-false, le-ltb}
-use Rattle.bits.specs.Bits.{bits, unpack, number, bytesFor, bytesOf}
-use Rattle.bits.specs.Laws.{number-lt, number-same, number-zero, zero-number}
-use Rattle.bits.specs.Bytes.{Bytes, bitAt, bytes-same, length-bytesOf, bytesOf-bytes, bitAt-bytesOf}
-use Rattle.theory.specs.declared.Task.{Task}
-use Rattle.theory.specs.Model.{none}
+use lib.Dec.{ltb}
+use lib.ListN.{length, getD, take, drop}
+use lib.Seq.{take-at}
+use borrow.Author.Tests.{le-ltb}
+use Rattle.bits.specs.Bits.{written, bytesFor}
+use Rattle.bits.specs.Bytes.{Bytes as AreBytes}
+use Rattle.theory.specs.Model.Schedule.{none}
+use Rattle.answers.specs.declared.Verdict.the-variants.{Fine}
+use Rattle.answers.specs.Answers.{given, fine, when, also}
+use Rattle.answers.specs.AnswerLaws.{also-given, also-fine}
 use Rattle.sheet.specs.declared.Sheet.{Sheet}
-use Rattle.sheet.specs.declared.Field.{Field}
-use Rattle.sheet.specs.declared.Field.the-variants.{Count, Rank, Length, Entry}
-use Rattle.sheet.specs.Answers.{given, fine, when, also, first}
-use Rattle.sheet.specs.Fields.{fields, width, place, value, outside, among, judged}
-use Rattle.sheet.specs.FieldLaws.{among-same}
-use Rattle.sheet.specs.Calls.{places, fieldsOf, judgeOf, packed, endOf, sizeOf, spelt, taskSpelt, entrySpelt, sheetSpelt, sheetOf, judgedIn, tailOf, readAs, readOf}
-use Rattle.sheet.specs.PlaceLaws.{places-every, places-taken, places-same}
-use Rattle.sheet.specs.EachLaws.{All, Each, all-map, each-all, all-each, first-same, first-fine, all-first}
-use Rattle.sheet.specs.FormatLaws.{fields-in-place, widths-fields, length-bits-of, written-spelt, spelt-written}
-use Rattle.sheet.specs.RoomLaws.{roomy}
-use Rattle.sheet.specs.Sound.{Sound, judged-sound, when-fine, also-given}
+use Rattle.sheet.specs.declared.Reading.{Reading}
+use Rattle.sheet.specs.declared.Written.{Written}
+use Rattle.sheet.specs.declared.Written.the-variants.{Bytes}
+use Rattle.sheet.specs.Calls.{judgeOf, packed, encoded, sizeOf, writeOf, bufferAfter, RanksFit, taskBy, cleared, readOf}
+use Rattle.sheet.specs.Fields.{value}
+use Rattle.sheet.specs.Answers.{toldBytes, sheetIn}
+use Rattle.sheet.specs.Promises.{ReadPromise, WritePromise}
+use Rattle.sheet.specs.AnswerLaws.{given-fine, bytes-told}
+use Rattle.sheet.specs.FormatLaws.{widths-fields, length-bits-of}
+use Rattle.sheet.specs.PlaceLaws.{places-taken}
+use Rattle.sheet.specs.SoundLaws.{judged-sound}
+use Rattle.sheet.specs.EncodedLaws.{length-encoded, encoded-read, read-encoded, read-judged}
 
--- The bytes of a sheet.
-abbrev pub encoded : Sheet → List ℕ
-encoded s = bytesOf (packed s)
+-- "the same counts, tasks and chain"
+pub record Same (s t : Sheet) : Type 0 where
+  pub count : s .count ≡ t .count
+  pub length : s .length ≡ t .length
+  pub tasks : (i : ℕ) → i < s .count → getD (s .tasks) i none ≡ getD (t .tasks) i none
+  pub chain : (i : ℕ) → i < s .length → getD (s .chain) i 0 ≡ getD (t .chain) i 0
 
--- "its ranks are 8-bit numbers": what the struct's type says of every sheet in memory.
-abbrev pub RanksFit : Sheet → Type 0
-RanksFit s = (i : ℕ) → value s (Rank i) < 256
+-- what was written is judged fine, and as long as its bytes
+written-fine : (s : Sheet) (room n : ℕ) → writeOf s room ≡ given n → (judgeOf s ≡ fine) × (n ≡ sizeOf s)
+unfolding writeOf
+written-fine s room n e =
+    let a = also-given (judgeOf s) (also (when (ltb room (sizeOf s)) 14) (given (sizeOf s))) e in
+    let b = also-given (when (ltb room (sizeOf s)) 14) (given (sizeOf s)) (a .1) in
+    let c = b .1 in (a .0, cc)
 
--- The sheet with its unused places zero.
-abbrev pub cleared : Sheet → Sheet
-cleared s =
+-- a sheet that is judged fine is written where there is room
+fine-written : (s : Sheet) (room : ℕ) → judgeOf s ≡ fine → sizeOf s ≤ room → writeOf s room ≡ given (sizeOf s)
+unfolding writeOf
+fine-written s room e h =
+    ap (λ j. also j (also (when (ltb room (sizeOf s)) 14) (given (sizeOf s)))) e
+    ∙ ap (λ b. also (when b 14) (given (sizeOf s))) (le-ltb room (sizeOf s) h)
+
+written-encoded : (s : Sheet) (old : List ℕ) → written (packed s) old ≡ encoded s ++ drop (sizeOf s) old
+unfolding written
+written-encoded s old = ap (λ k. encoded s ++ drop (bytesFor k) old) (length-bits-of s)
+
+cleared-same : (s : Sheet) → judgeOf s ≡ fine → Same s (cleared s)
+cleared-same s e =
+    let sound = judged-sound s e in
     record {
-      tasks = places none (s .count) (λ i. getD (s .tasks) i none);
-      chain = places 0 (s .length) (λ i. getD (s .chain) i 0);
-      count = s .count;
-      length = s .length;
+      count = refl;
+      length = refl;
+      tasks = λ i l. sym (places-taken none (taskBy (value s)) (s .count) i l (omega (arith, sound .count-most)));
+      chain = λ i l. sym (places-taken 0 (λ j. getD (s .chain) j 0) (s .length) i l (omega (arith, sound .length-most, sound .count-most)));
     }
-
-length-encoded : (s : Sheet) → length (encoded s) ≡ sizeOf s
-length-encoded s = length-bytesOf (packed s) ∙ ap bytesFor (length-bits-of s)
-
--- ---- fields that hold the same are judged the same
-
-judged-same : (s t : Sheet) (n m : ℕ) → Each (λ f. value s f ≡ value t f) n m → Each (λ f. judged s f ≡ judged t f) n m
-judged-same s t n m v =
-    record {
-      of-count = ap (λ x. when (outside 1 16 x) 2) (v .of-count);
-      of-period = λ i l. ap (λ x. when (outside 1 100000 x) 3) (v .of-period i l);
-      of-budget = λ i l. ap₂ (λ x y. when (outside 1 x y) 4) (v .of-period i l) (v .of-budget i l);
-      of-rank = λ i l. ap (λ b. when b 5) (fresh (λ j. value s (Rank j)) (λ j. value t (Rank j)) n i l (v .of-rank));
-      of-length = ap₂ (λ x y. when (outside 1 x y) 6) (v .of-count) (v .of-length);
-      of-entry =
-          λ i l. ap₂ (λ x b. also (when x 7) (when b 8)) (ap₂ leb (v .of-count) (v .of-entry i l))
-          (fresh (λ j. value s (Entry j)) (λ j. value t (Entry j)) m i l (v .of-entry));
-    }
-  where
-    fresh : (f g : ℕ → ℕ) (k i : ℕ) → i < k → ((j : ℕ) → j < k → f j ≡ g j) → among f i (f i) ≡ among g i (g i)
-    fresh f g k i l h = ap (among f i) (h i l) ∙ among-same f g i (g i) (λ j q. h j (omega arith))
-
--- ---- written, then read
-
-task-same : {t : Task} {p b r : ℕ} → p ≡ t .period → b ≡ t .budget → r ≡ t .rank → record { period = p; budget = b; rank = r } ≡ t
-task-same {t} {p} {b} {r} x y z =
-    ap₂ (λ p b. record { period = p; budget = b; rank = r }) x y ∙ ap (λ r. record { period = t .period; budget = t .budget; rank = r }) z
-
-module _ (s : Sheet) (sound : Sound s) where
-  -- the places in use are the same
-  cleared-value : Each (λ f. value (cleared s) f ≡ value s f) (s .count) (s .length)
-  cleared-value =
-      record {
-        of-count = refl;
-        of-period = λ i l. ap (λ t. t .period) (task i l);
-        of-budget = λ i l. ap (λ t. t .budget) (task i l);
-        of-rank = λ i l. ap (λ t. t .rank) (task i l);
-        of-length = refl;
-        of-entry = λ i l. places-taken 0 (λ j. getD (s .chain) j 0) (s .length) i l (omega (arith, sound .length-most, sound .count-most));
-      }
-    where
-      task : (i : ℕ) → i < s .count → getD (cleared s .tasks) i none ≡ getD (s .tasks) i none
-      task i l = places-taken none (λ j. getD (s .tasks) j none) (s .count) i l (omega (arith, sound .count-most))
-
-  cleared-judge : judgeOf (cleared s) ≡ judgeOf s
-  unfolding judgeOf
-  cleared-judge =
-      first-same (judged (cleared s)) (judged s) (fieldsOf s)
-      (each-all (λ f. judged (cleared s) f ≡ judged s f) (judged-same (cleared s) s (s .count) (s .length) cleared-value))
-
-  -- every value fits its field
-  values-fit : RanksFit s → Each (λ f. value s f < 2 ^ width f) (s .count) (s .length)
-  values-fit ranks =
-      record {
-        of-count = omega (arith, sound .count-most);
-        of-period = λ i l. omega (arith, sound .period-most i l);
-        of-budget = λ i l. omega (arith, sound .budget-most i l, sound .period-most i l);
-        of-rank = λ i l. ranks i;
-        of-length = omega (arith, sound .length-most, sound .count-most);
-        of-entry = λ i l. omega (arith, sound .entry-below i l, sound .count-most);
-      }
-
-module _ (s : Sheet) (sound : Sound s) (ranks : RanksFit s) where
-  -- what its bytes spell is what it holds
-  encoded-spelt : Each (λ f. spelt (unpack (encoded s)) (s .count) f ≡ value s f) (s .count) (s .length)
-  encoded-spelt =
-      all-each (λ f. spelt (unpack (encoded s)) (s .count) f ≡ value s f)
-      (all-map (λ f. number (packed s) (place (s .count) f) (width f) ≡ value s f) (λ f. spelt (unpack (encoded s)) (s .count) f ≡ value s f) (fieldsOf s)
-      (λ f e. number-same (unpack (encoded s)) (packed s) (place (s .count) f) (place (s .count) f) (width f) (λ k l. bitAt-bytesOf (packed s) (place (s .count) f + k)) ∙ e)
-      (written-spelt s (s .count) (fieldsOf s) [] (fields-in-place (s .count) (s .length)) (each-all (λ f. value s f < 2 ^ width f) (values-fit s sound ranks))))
-
-  encoded-sheet : sheetOf (unpack (encoded s)) ≡ cleared s
-  unfolding sheetOf
-  encoded-sheet =
-      ap₂ (sheetSpelt bs) (e .of-count) (ap (λ n. spelt bs n Length) (e .of-count) ∙ e .of-length)
-      ∙ ap₂ (λ x y. record { tasks = x; chain = y; count = s .count; length = s .length })
-      (places-same none (s .count) (taskSpelt bs (s .count)) (λ i. getD (s .tasks) i none) (λ i l g. task-same (e .of-period i l) (e .of-budget i l) (e .of-rank i l)))
-      (places-same 0 (s .length) (entrySpelt bs (s .count)) (λ i. getD (s .chain) i 0) (λ i l g. e .of-entry i l))
-    where
-      bs : List Bool
-      bs = unpack (encoded s)
-
-      e : Each (λ f. spelt bs (s .count) f ≡ value s f) (s .count) (s .length)
-      e = encoded-spelt
-
-  encoded-tail : tailOf (encoded s) (endOf s) ≡ fine
-  encoded-tail =
-      ap₂ (λ a b. also (when a 9) (when b 9)) (le-ltb (sizeOf s) (length (encoded s)) (omega (arith, length-encoded s)))
-      (le-ltb 0 (number (unpack (encoded s)) (endOf s) pad) (omega (arith, number-zero (unpack (encoded s)) (endOf s) pad past)))
-    where
-      pad : ℕ
-      pad = sizeOf s * 8 - endOf s
-
-      past : (k : ℕ) → k < pad → bitAt (encoded s) (endOf s + k) ≡ false
-      past k l = bitAt-bytesOf (packed s) (endOf s + k) ∙ List·getD-eq-default (packed s) false (omega (arith, length-bits-of s))
-
--- ---- read, then written
-
--- what was judged of the bytes, with the sheet s that they spell
-record Accepted (bytes : List ℕ) (s : Sheet) : Type 0 where
-  inside : Each (λ f. place (s .count) f + width f ≤ length bytes * 8) (s .count) (s .length)
-  judged-fine : judgeOf s ≡ fine
-  last-byte : length bytes ≤ sizeOf s
-  zeros : number (unpack bytes) (endOf s) (sizeOf s * 8 - endOf s) ≡ 0
-  is : s ≡ sheetOf (unpack bytes)
-
-accepted : (bytes : List ℕ) (s : Sheet) → readOf bytes ≡ given s → Accepted bytes s
-unfolding readOf judgeOf
-accepted bytes s e =
-    record {
-      inside = all-each (λ f. place (s .count) f + width f ≤ room) (all-map fits (λ f. place (s .count) f + width f ≤ room) (fieldsOf s) (λ f h. ltb-false room (place (s .count) f + width f) (when-fine _ 1 (both f h .0))) each);
-      judged-fine = all-first (judged s) (fieldsOf s) (all-map fits (λ f. judged s f ≡ fine) (fieldsOf s) (λ f h. both f h .1) each);
-      last-byte = ltb-false (sizeOf s) (length bytes) (when-fine _ 9 (tail .0));
-      zeros = omega (arith, ltb-false 0 (number (unpack bytes) (endOf s) (sizeOf s * 8 - endOf s)) (when-fine _ 9 (tail .1)));
-      is = same;
-    }
-  where
-    t : Sheet
-    t = sheetOf (unpack bytes)
-
-    room : ℕ
-    room = length bytes * 8
-
-    same : s ≡ t
-    same =
-        let a = also-given (first (judgedIn room t) (fieldsOf t)) (also (tailOf bytes (endOf t)) (given t)) e in
-        let b = also-given (tailOf bytes (endOf t)) (given t) (a .1) in
-        let c = b .1 in cc
-
-    whole : readAs bytes s ≡ given s
-    whole = ap (readAs bytes) same ∙ e
-
-    fits : Field → Type 0
-    fits f = judgedIn room s f ≡ fine
-
-    parts : (first (judgedIn room s) (fieldsOf s) ≡ fine) × (also (tailOf bytes (endOf s)) (given s) ≡ given s)
-    parts = also-given (first (judgedIn room s) (fieldsOf s)) (also (tailOf bytes (endOf s)) (given s)) whole
-
-    each : All fits (fieldsOf s)
-    each = first-fine (judgedIn room s) (fieldsOf s) (parts .0)
-
-    both : (f : Field) → judgedIn room s f ≡ fine → (when (ltb room (place (s .count) f + width f)) 1 ≡ fine) × (judged s f ≡ fine)
-    both f h = also-given (when (ltb room (place (s .count) f + width f)) 1) (judged s f) h
-
-    tail : (when (ltb (sizeOf s) (length bytes)) 9 ≡ fine) × (when (ltb 0 (number (unpack bytes) (endOf s) (sizeOf s * 8 - endOf s))) 9 ≡ fine)
-    tail = also-given (when (ltb (sizeOf s) (length bytes)) 9) _ (also-given (tailOf bytes (endOf s)) (given s) (parts .1) .0)
-
--- the sheet that bits spell holds what they spell
-spelt-held : (bs : List Bool) (n m : ℕ) → n ≤ 16 → m ≤ 16 → spelt bs 0 Count ≡ n → spelt bs n Length ≡ m → Each (λ f. spelt bs n f ≡ value (sheetSpelt bs n m) f) n m
-spelt-held bs n m hn hm en em =
-    record {
-      of-count = en;
-      of-period = λ i l. ap (λ t. t .period) (task i l);
-      of-budget = λ i l. ap (λ t. t .budget) (task i l);
-      of-rank = λ i l. ap (λ t. t .rank) (task i l);
-      of-length = em;
-      of-entry = λ i l. sym (places-taken 0 (entrySpelt bs n) m i l (omega arith));
-    }
-  where
-    task : (i : ℕ) → i < n → taskSpelt bs n i ≡ getD (sheetSpelt bs n m .tasks) i none
-    task i l = sym (places-taken none (taskSpelt bs n) n i l (omega arith))
-
-module _ (bytes : List ℕ) (s : Sheet) (ok : Accepted bytes s) where
-  abbrev bs : List Bool
-  bs = unpack bytes
-
-  sound : Sound s
-  sound = judged-sound s (ok .judged-fine)
-
-  spelt-value : Each (λ f. spelt (unpack bytes) (s .count) f ≡ value s f) (s .count) (s .length)
-  unfolding sheetOf
-  spelt-value =
-      let n = spelt bs 0 Count in
-      subst (λ x. Each (λ f. spelt bs (x .count) f ≡ value x f) (x .count) (x .length)) (sym (ok .is))
-      (spelt-held bs n (spelt bs n Length) (omega (arith, sound, ap (λ x. x .count) (ok .is))) (omega (arith, sound, ap (λ x. x .length) (ok .is))) refl refl)
-
-  size-is : length bytes ≡ sizeOf s
-  size-is = omega (arith, sound, ok .last-byte, ok .inside .of-entry (s .length - 1) (omega (arith, sound)))
-
-  bits-are : (p : ℕ) → p < length bytes * 8 → getD (packed s) p false ≡ bitAt bytes p
-  bits-are p l = go (decLt p (endOf s))
-    where
-      go : Dec (p < endOf s) → getD (packed s) p false ≡ bitAt bytes p
-      go (yes h) =
-          spelt-written s (s .count) bs (fieldsOf s) 0 (fields-in-place (s .count) (s .length)) (each-all (λ f. spelt bs (s .count) f ≡ value s f) spelt-value) p (omega (arith, widths-fields (s .count) (s .length)))
-          ∙ ap (bitAt bytes) {x = 0 + p} {y = p} (omega arith)
-      go (no h) =
-          List·getD-eq-default (packed s) false (omega (arith, length-bits-of s))
-          ∙ sym (ap (bitAt bytes) {x = p} {y = endOf s + (p - endOf s)} (omega arith) ∙ zero-number bs (endOf s) (sizeOf s * 8 - endOf s) (p - endOf s) (ok .zeros) (omega (arith, size-is)))
 
 -- ---- the theorems
 
--- "Writing a sheet and reading it gives the same counts, tasks and chain."
-pub write-read : (s : Sheet) → RanksFit s → judgeOf s ≡ fine → readOf (encoded s) ≡ given (cleared s)
-unfolding readOf
-write-read s ranks e =
-    let sound = judged-sound s e in
-    ap (readAs (encoded s)) (encoded-sheet s sound ranks)
-    ∙ ap₂ (λ a b. also a (also b (given (cleared s))))
-    (roomy (cleared s) (length (encoded s) * 8) (omega (arith, length-encoded s)) ∙ cleared-judge s sound ∙ e) (encoded-tail s sound ranks)
+-- "Writing a sheet and reading it gives the same counts, tasks and chain", the unused places zero.
+pub write-read : (s : Sheet) (old new : List ℕ) (n : ℕ) (x : Reading) → RanksFit s → WritePromise s old (Bytes n) new → ReadPromise (take n new) x
+    → (x .verdict ≡ Fine) × (x .sheet ≡ cleared s) × Same s (x .sheet)
+write-read s old new n x ranks w r =
+    let f = written-fine s (length old) n (sym (w .0)) in
+    let front : take n new ≡ encoded s =
+    ap (take n) (w .1 ∙ written-encoded s old) ∙ take-at (encoded s) (drop (sizeOf s) old) n (length-encoded s ∙ sym (f .1)) in
+    let e : readOf (take n new) ≡ given (cleared s) = ap readOf front ∙ encoded-read s ranks (f .0) in
+    let same : x .sheet ≡ cleared s = r .1 ∙ ap sheetIn e in
+    (given-fine (x .verdict) (x .sheet) (r .0 ∙ e), same, subst (Same s) (sym same) (cleared-same s (f .0)))
 
--- "Reading accepted bytes and writing gives the same bytes."
-pub read-write : (bytes : List ℕ) (s : Sheet) → Bytes bytes → readOf bytes ≡ given s → encoded s ≡ bytes
-read-write bytes s fit e =
-    let ok = accepted bytes s e in
-    bytes-same (encoded s) bytes (bytesOf-bytes (packed s)) fit (length-encoded s ∙ sym (size-is bytes s ok))
-    (λ p l. bitAt-bytesOf (packed s) p ∙ bits-are bytes s ok p (omega (arith, length-encoded s, size-is bytes s ok)))
-
--- A sheet that is read would be judged fine.
-pub read-judged : (bytes : List ℕ) (s : Sheet) → readOf bytes ≡ given s → (judgeOf s ≡ fine) × RanksFit s
-unfolding sheetOf
-read-judged bytes s e =
-    let ok = accepted bytes s e in
-    let bs = unpack bytes in
-    let n = spelt bs 0 Count in (
-      ok .judged-fine,
-      λ i. subst (λ x. value x (Rank i) < 256) (sym (ok .is))
-          (places-every none (taskSpelt bs n) (λ t. t .rank < 256) n (omega arith) (λ j. number-lt bs (place n (Rank j)) 8) i),
+-- "Reading accepted bytes and writing gives the same bytes", and the rest of the buffer as it was.
+pub read-write : (bytes old new : List ℕ) (x : Reading) (w : Written) → AreBytes bytes → ReadPromise bytes x → x .verdict ≡ Fine → WritePromise (x .sheet) old w new
+    → length bytes ≤ length old → (w ≡ Bytes (length bytes)) × (new ≡ bytes ++ drop (length bytes) old)
+read-write bytes old new x w fit r f h room =
+    let s = x .sheet in
+    let e : readOf bytes ≡ given s = sym (r .0) ∙ also-fine (given s) refl f in
+    let same : encoded s ≡ bytes = read-encoded bytes s fit e in
+    let size : sizeOf s ≡ length bytes = sym (length-encoded s) ∙ ap length same in
+    let told : toldBytes w ≡ given (length bytes) = h .0 ∙ fine-written s (length old) (read-judged bytes s e .0) (omega (arith, size)) ∙ ap given size in (
+      bytes-told w (length bytes) told,
+      h .1 ∙ ap (λ a. bufferAfter a s old) told ∙ written-encoded s old ∙ ap (λ b. b ++ drop (sizeOf s) old) same ∙ ap (λ k. bytes ++ drop k old) size,
     )
 
 -- Bytes are accepted exactly when they are the encoding of a sheet that is judged fine.
-pub accepted-exactly : (bytes : List ℕ) → Bytes bytes
+pub accepted-exactly : (bytes : List ℕ) → AreBytes bytes
     → ((s : Sheet) × (readOf bytes ≡ given s)) ↔ ((s : Sheet) × RanksFit s × (judgeOf s ≡ fine) × (encoded s ≡ bytes))
 accepted-exactly bytes fit = (
-  λ r. let j = read-judged bytes (r .0) (r .1) in (r .0, j .1, j .0, read-write bytes (r .0) fit (r .1)),
-  λ r. (cleared (r .0), ap readOf (sym (r .3)) ∙ write-read (r .0) (r .1) (r .2)),
+  λ r. let j = read-judged bytes (r .0) (r .1) in (r .0, j .1, j .0, read-encoded bytes (r .0) fit (r .1)),
+  λ r. (cleared (r .0), ap readOf (sym (r .3)) ∙ encoded-read (r .0) (r .1) (r .2)),
 )
 
 -- "A sheet is 7 to 94 bytes."
 pub size-range : (s : Sheet) → judgeOf s ≡ fine → (7 ≤ length (encoded s)) × (length (encoded s) ≤ 94)
-size-range s e = let sound = judged-sound s e in (omega (arith, length-encoded s, sound), omega (arith, length-encoded s, sound))
+size-range s e =
+    let sound = judged-sound s e in
+    let end = widths-fields (s .count) (s .length) in
+    (omega (arith, length-encoded s, end, sound), omega (arith, length-encoded s, end, sound))
+
+-- and so many are written
+pub written-range : (s : Sheet) (room n : ℕ) → writeOf s room ≡ given n → (7 ≤ n) × (n ≤ 94)
+written-range s room n e =
+    let f = written-fine s room n e in
+    let r = size-range s (f .0) in
+    (omega (arith, r .0, f .1, length-encoded s), omega (arith, r .1, f .1, length-encoded s))

@@ -1,18 +1,21 @@
 // The timing sheet: read from bytes, judged in memory, written to bytes. Its format is one list of fields, each with a width, a
 // place, a value and a judgement (specs/Fields.antt); what the calls answer is said over that list (specs/Calls.antt), and that
 // writing and reading are inverse is proved of it (specs/RoundTrip.antt).
+use answers::Refusal;
+use answers::Verdict;
 use theory::Task;
 ghost use mathlib.Core.Path.{_≡_};
-ghost use Prim.Native.Nat.{_*_, _<_, _≤_, min};
-ghost use lib.ListN.{length, getD};
+ghost use Prim.Native.Nat.{_+_, _*_, _<_, _≤_, min};
+ghost use lib.ListN.{getD};
 ghost use lib.Seq.{sets};
 ghost use Rattle.bits.specs.Bits.{unpack};
-ghost use Rattle.theory.specs.Model.{none};
-ghost use Rattle.sheet.specs.Answers.{when, first};
-ghost use Rattle.sheet.specs.Fields.{width, place, value, outside, among, judged};
-ghost use Rattle.sheet.specs.Steps.{opening, next, index, nth};
-ghost use Rattle.sheet.specs.Calls.{places, fieldsOf, judgedIn, judgeOf, packed, endOf, writeOf, bufferAfter, spelt, taskSpelt, entrySpelt, sheetOf, tailOf, readOf};
-ghost use Rattle.sheet.specs.Told.{told, toldSheet, toldBytes, refusalIn, blank, sheetIn};
+ghost use Rattle.theory.specs.Model.Schedule.{none};
+ghost use Rattle.answers.specs.Answers.{when, first, told};
+ghost use Rattle.sheet.specs.Fields.{width, index, value, outside, among, judged};
+ghost use Rattle.sheet.specs.Order.{opening, next, nth, taskBits, taskAt, entryAt};
+ghost use Rattle.sheet.specs.Calls.{places, fieldsOf, judgedIn, packed, endOf, sheetOf, tailOf};
+ghost use Rattle.sheet.specs.Answers.{blank};
+ghost use Rattle.sheet.specs.Promises.{JudgePromise, ReadPromise, WritePromise, WrittenRefusalPromise};
 ghost use Rattle.sheet.specs.declared.Field.the-variants.{Rank, Entry};
 
 pub struct Sheet {
@@ -20,17 +23,6 @@ pub struct Sheet {
     pub chain: [u8; 16],
     pub count: u8,
     pub length: u8,
-}
-
-// A number of document 01's table; 15 comes with the late task.
-pub enum Refusal {
-    Number(u8),
-    Late(u8),
-}
-
-pub enum Verdict {
-    Fine,
-    No(Refusal),
 }
 
 pub struct Reading {
@@ -68,14 +60,8 @@ const ENTRY_BITS: u32 = 4;
 
 const TASK_BITS: u32 = PERIOD_BITS + BUDGET_BITS + RANK_BITS;
 
-const BUDGET_AT: u32 = COUNT_BITS + PERIOD_BITS;
-
-const RANK_AT: u32 = BUDGET_AT + BUDGET_BITS;
-
-const COUNTS_BITS: u32 = COUNT_BITS + LENGTH_BITS;
-
 fn wide(x: u8) -> u32
-    ensures { λ r. ⌜ r ≡ x ⌝ }
+    ensures { λ r. ⌜ (r ≡ x) × (r < 256) ⌝ }
 {
     x as u32
 }
@@ -84,12 +70,6 @@ fn short(x: u8) -> u16
     ensures { λ r. ⌜ (r ≡ x) × (r < 256) ⌝ }
 {
     x as u16
-}
-
-fn long(x: u16) -> u32
-    ensures { λ r. ⌜ r ≡ x ⌝ }
-{
-    x as u32
 }
 
 fn width_of(f: Field) -> u32
@@ -102,19 +82,6 @@ fn width_of(f: Field) -> u32
         Field::Rank(_) => RANK_BITS,
         Field::Length => LENGTH_BITS,
         Field::Entry(_) => ENTRY_BITS,
-    }
-}
-
-fn place_of(n: u16, f: Field) -> u32
-    ensures { λ r. ⌜ r ≡ place n f ⌝ }
-{
-    match f {
-        Field::Count => 0,
-        Field::Period(i) => COUNT_BITS + TASK_BITS * long(i),
-        Field::Budget(i) => BUDGET_AT + TASK_BITS * long(i),
-        Field::Rank(i) => RANK_AT + TASK_BITS * long(i),
-        Field::Length => COUNT_BITS + TASK_BITS * long(n),
-        Field::Entry(i) => COUNTS_BITS + TASK_BITS * long(n) + ENTRY_BITS * long(i),
     }
 }
 
@@ -223,7 +190,7 @@ fn ranged(number: u8, low: u32, high: u32, v: u32) -> Verdict
 }
 
 fn judge_entry(s: Sheet, i: u16) -> Verdict
-    ensures { λ r. ⌜ told r ≡ judged s (Entry i) ⌝ }
+    ensures { λ r. ⌜ told r ≡ judged (value s) (Entry i) ⌝ }
 {
     let chain = s.chain;
     if s.count <= nth_of(&chain, i) {
@@ -233,7 +200,7 @@ fn judge_entry(s: Sheet, i: u16) -> Verdict
 }
 
 fn judge_field(s: Sheet, f: Field) -> Verdict
-    ensures { λ r. ⌜ told r ≡ judged s f ⌝ }
+    ensures { λ r. ⌜ told r ≡ judged (value s) f ⌝ }
 {
     match f {
         Field::Count => ranged(2, 1, 16, wide(s.count)),
@@ -257,9 +224,10 @@ fn judge_fields(s: Sheet, len: usize) -> Verdict
 {
     let n = short(s.count);
     let mut f = Field::Count;
+    let mut at = 0u32;
     let mut left = 2 + 3 * n + short(s.length);
     while 0 < left {
-        let end = place_of(n, f) + width_of(f);
+        let end = at + width_of(f);
         if len < ((end + 7) / 8) as usize {
             return Verdict::No(Refusal::Number(1));
         }
@@ -268,6 +236,7 @@ fn judge_fields(s: Sheet, len: usize) -> Verdict
             return v;
         };
         f = next_of(n, f);
+        at = end;
         left -= 1;
     }
     Verdict::Fine
@@ -275,24 +244,19 @@ fn judge_fields(s: Sheet, len: usize) -> Verdict
 
 // A sheet in memory, judged for 2 to 8 in the order of its fields.
 pub fn judge(s: Sheet) -> Verdict
-    ensures { λ r. ⌜ told r ≡ judgeOf s ⌝ }
+    ensures { λ r. ⌜ JudgePromise s r ⌝ }
 {
     judge_fields(s, 2000)
 }
 
-// What the bytes hold in a field of a sheet of n tasks.
-fn spelt_at(bytes: &[u8], n: u16, f: Field) -> u32
-    ensures { λ r. ⌜ r ≡ spelt (unpack (now (bytes .entry))) n f ⌝ }
+// What the bytes hold in the fields of a task, the first of them at bit `at`.
+fn task_at(bytes: &[u8], at: u32) -> Task
+    requires { ⌜ at ≤ 60000 ⌝ }
+    ensures { λ r. ⌜ r ≡ taskAt (unpack (now (bytes .entry))) at ⌝ }
 {
-    bits::number(bytes, place_of(n, f), width_of(f))
-}
-
-fn task_at(bytes: &[u8], n: u16, i: u16) -> Task
-    ensures { λ r. ⌜ r ≡ taskSpelt (unpack (now (bytes .entry))) n i ⌝ }
-{
-    let period = spelt_at(bytes, n, Field::Period(i));
-    let budget = spelt_at(bytes, n, Field::Budget(i));
-    let rank = spelt_at(bytes, n, Field::Rank(i)) as u8;
+    let period = bits::number(bytes, at, PERIOD_BITS);
+    let budget = bits::number(bytes, at + PERIOD_BITS, BUDGET_BITS);
+    let rank = bits::number(bytes, at + PERIOD_BITS + BUDGET_BITS, RANK_BITS) as u8;
     Task {
         period,
         budget,
@@ -310,8 +274,10 @@ fn taken(k: u16) -> u16
     16
 }
 
-fn tasks_at(bytes: &[u8], n: u16) -> [Task; 16]
-    ensures { λ r. ⌜ r ≡ places none n (taskSpelt (unpack (now (bytes .entry))) n) ⌝ }
+// So many tasks, one after the other from bit `at` on.
+fn tasks_at(bytes: &[u8], at: u32, n: u16) -> [Task; 16]
+    requires { ⌜ at ≤ 50000 ⌝ }
+    ensures { λ r. ⌜ r ≡ places none n (λ i. taskAt (unpack (now (bytes .entry))) (at + taskBits * i)) ⌝ }
 {
     let blank = Task {
         period: 0,
@@ -320,24 +286,30 @@ fn tasks_at(bytes: &[u8], n: u16) -> [Task; 16]
     };
     let mut tasks = [blank; 16];
     let end = taken(n);
+    let mut begin = at;
     let mut i = 0u16;
     while i < end {
         let k = i as usize;
-        tasks[k] = task_at(bytes, n, i);
+        tasks[k] = task_at(bytes, begin);
+        begin += TASK_BITS;
         i += 1;
     }
     tasks
 }
 
-fn chain_at(bytes: &[u8], n: u16, m: u16) -> [u8; 16]
-    ensures { λ r. ⌜ r ≡ places 0 m (entrySpelt (unpack (now (bytes .entry))) n) ⌝ }
+// So many entries of a chain.
+fn chain_at(bytes: &[u8], at: u32, m: u16) -> [u8; 16]
+    requires { ⌜ at ≤ 50000 ⌝ }
+    ensures { λ r. ⌜ r ≡ places 0 m (λ i. entryAt (unpack (now (bytes .entry))) (at + width (Entry i) * i)) ⌝ }
 {
     let mut chain = [0u8; 16];
     let end = taken(m);
+    let mut begin = at;
     let mut i = 0u16;
     while i < end {
         let k = i as usize;
-        chain[k] = spelt_at(bytes, n, Field::Entry(i)) as u8;
+        chain[k] = bits::number(bytes, begin, ENTRY_BITS) as u8;
+        begin += ENTRY_BITS;
         i += 1;
     }
     chain
@@ -347,10 +319,11 @@ fn chain_at(bytes: &[u8], n: u16, m: u16) -> [u8; 16]
 fn spell(bytes: &[u8]) -> Sheet
     ensures { λ r. ⌜ r ≡ sheetOf (unpack (now (bytes .entry))) ⌝ }
 {
-    let n = spelt_at(bytes, 0, Field::Count) as u8;
-    let m = spelt_at(bytes, short(n), Field::Length) as u8;
-    let tasks = tasks_at(bytes, short(n));
-    let chain = chain_at(bytes, short(n), short(m));
+    let n = bits::number(bytes, 0, COUNT_BITS) as u8;
+    let tasks = tasks_at(bytes, COUNT_BITS, short(n));
+    let at = COUNT_BITS + TASK_BITS * wide(n);
+    let m = bits::number(bytes, at, LENGTH_BITS) as u8;
+    let chain = chain_at(bytes, at + LENGTH_BITS, short(m));
     Sheet {
         tasks,
         chain,
@@ -376,9 +349,9 @@ fn judge_tail(bytes: &[u8], end: u32) -> Verdict
 
 // The bit after the last field.
 fn end_of(s: Sheet) -> u32
-    ensures { λ r. ⌜ r ≡ endOf s ⌝ }
+    ensures { λ r. ⌜ (r ≡ endOf s) × (r ≤ 20000) ⌝ }
 {
-    place_of(short(s.count), Field::Entry(short(s.length)))
+    COUNT_BITS + TASK_BITS * wide(s.count) + LENGTH_BITS + ENTRY_BITS * wide(s.length)
 }
 
 fn refused(verdict: Verdict) -> Reading
@@ -400,7 +373,7 @@ fn refused(verdict: Verdict) -> Reading
 
 // The sheet that bytes hold; a blank sheet stands beside a refusal.
 pub fn read(bytes: &[u8]) -> Reading
-    ensures { λ r. ⌜ (toldSheet r ≡ readOf (now (bytes .entry))) × (r .sheet ≡ sheetIn (readOf (now (bytes .entry)))) ⌝ }
+    ensures { λ r. ⌜ ReadPromise (now (bytes .entry)) r ⌝ }
 {
     let sheet = spell(bytes);
     let fields = judge_fields(sheet, bytes.len());
@@ -434,22 +407,13 @@ fn put_fields(out: &mut [u8], s: Sheet)
     }
 }
 
-fn refusal_in(v: Verdict) -> Refusal
-    ensures { λ r. ⌜ r ≡ refusalIn v ⌝ }
-{
-    match v {
-        Verdict::Fine => Refusal::Number(0),
-        Verdict::No(r) => r,
-    }
-}
-
 // The sheet's bytes at the front of a buffer, and how many they are.
 pub fn write(s: Sheet, out: &mut [u8]) -> Written
-    ensures { λ r. ⌜ (toldBytes r ≡ writeOf s (length (now (out .entry)))) × (now (out .exit) ≡ bufferAfter (toldBytes r) s (now (out .entry))) ⌝ }
+    ensures { λ r. ⌜ WritePromise s (now (out .entry)) r (now (out .exit)) ⌝ }
 {
     let v = judge(s);
     let Verdict::Fine = v else {
-        return Written::No(refusal_in(v));
+        return Written::No(answers::refusal_of(v));
     };
     let end = end_of(s);
     let size = (end + 7) / 8;
@@ -459,4 +423,14 @@ pub fn write(s: Sheet, out: &mut [u8]) -> Written
     put_fields(&mut *out, s);
     bits::put(&mut *out, end, size * 8 - end, 0);
     Written::Bytes(size as usize)
+}
+
+// The refusal in an answer of the writer. Number 0, which no refusal has, stands for none.
+pub fn written_refusal(w: Written) -> Refusal
+    ensures { λ r. ⌜ WrittenRefusalPromise w r ⌝ }
+{
+    let Written::No(r) = w else {
+        return Refusal::Number(0);
+    };
+    r
 }

@@ -1,5 +1,7 @@
-//! The sheets of the benchmark, written into the folder that is named, and a line for each: group, name, n, H, J and chain length.
+//! The sheets of the benchmark, written into the folder that is named, with the requests of the probe that are measured, and a line
+//! for each: group, name, n, H, J and chain length.
 
+use model::probe::{Call, Handed, Lent, Request};
 use model::schedule::hyperperiod;
 use model::sheet::{encoded, Task};
 use std::path::PathBuf;
@@ -12,9 +14,29 @@ impl Sheets {
     fn add(&self, group: &str, name: &str, tasks: &[Task], chain: &[u8]) {
         let h = hyperperiod(tasks).expect("H is within its limit");
         let jobs: u32 = tasks.iter().map(|t| h / t.period).sum();
-        std::fs::write(self.folder.join(format!("{name}.sheet")), encoded(tasks, chain)).expect("the sheet can be written");
+        let sheet = encoded(tasks, chain);
+        let table = request(Call::Responses, &sheet, jobs);
+        self.write(name, ".read", &of_no_call(&table));
+        self.write(name, ".table", &table);
+        self.write(name, ".worst", &request(Call::Worst, &sheet, jobs));
+        self.write(name, "", &sheet);
         println!("{group} {name} {} {h} {jobs} {}", tasks.len(), chain.len());
     }
+
+    fn write(&self, name: &str, part: &str, bytes: &[u8]) {
+        std::fs::write(self.folder.join(format!("{name}.sheet{part}")), bytes).expect("the folder can be written to");
+    }
+}
+
+/// A call on a table of zeros with as many entries as it needs.
+fn request(call: Call, sheet: &[u8], jobs: u32) -> Vec<u8> {
+    let lent = Lent::Table { room: jobs as usize, words: vec![] };
+    Request { call, numbers: [0; 3], sheet: Handed::Bytes(sheet.to_vec()), lent }.bytes()
+}
+
+/// The same request with a number that is no call's, for which the probe reads the sheet and answers nothing.
+fn of_no_call(request: &[u8]) -> Vec<u8> {
+    [&u32::MAX.to_be_bytes(), &request[4..]].concat()
 }
 
 /// Tasks of these periods, a shorter one ranked higher and of equal ones the later, that use a 25th of the processor each.

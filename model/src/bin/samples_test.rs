@@ -1,9 +1,7 @@
-//! The sample sheets, document 01's and one for each refusal, with the report of each; and what the programs report and measure are
-//! run on.
+//! The sample sheets, document 01's and one for each refusal, with the report of each; and what the program report is run on.
 
-use model::chain::worst;
 use model::report::report;
-use model::sheet::{encoded, packed, raw_bits, read, Task};
+use model::sheet::{encoded, packed, raw_bits, Task};
 use model::store;
 
 fn tasks(list: &[(u32, u32, u8)]) -> Vec<Task> {
@@ -24,8 +22,8 @@ fn main() {
         ("radio-short", encoded(&radio, &[0, 1])),
         ("quartet", encoded(&quartet, &[2, 3])),
         ("lone", encoded(&lone, &[0])),
-        ("long-hyperperiod", encoded(&pair(1_000, 999), &[0, 1])),
-        ("many-jobs", encoded(&pair(2, 16_382), &[0, 1])),
+        ("long-hyperperiod", encoded(&pair(1_000, 999), &[0])),
+        ("many-jobs", encoded(&pair(2, 16_382), &[0])),
         ("sixteen", encoded(&tasks(&sixteen), &full)),
         ("slow", encoded(&tasks(&[(2_000, 1_500, 2), (100_000, 20_000, 1)]), &[1, 0])),
         ("refused-1-cut-short", encoded(&radio, &[0, 1, 2])[..9].to_vec()),
@@ -50,9 +48,6 @@ fn main() {
     let radio = &sheets[1].1;
     files.push(("crates/report/stdin".into(), radio.clone()));
     files.push(("crates/report/stdout".into(), report(radio).into_bytes()));
-    let (figure, _) = worst(&read(radio).unwrap(), &mut [0; 8_192]).unwrap();
-    files.push(("crates/measure/stdin".into(), [&b"w"[..], radio].concat()));
-    files.push(("crates/measure/stdout".into(), format!("{figure}\n").into_bytes()));
     let files: Vec<(&str, Vec<u8>)> = files.iter().map(|(name, content)| (name.as_str(), content.clone())).collect();
     store(&files);
 }

@@ -13,9 +13,6 @@ use Rattle.arith.proofs.lcm.Tie as tie
 returns : tie.Need-returns
 returns c = rw (c .if1 .taken, lcm-zero) (sym (within-fits _ 0 zero-le))
 
-gcd-requires : tie.Need-gcd-requires
-gcd-requires c κs = search needs
-
 div-multiple : tie.Need-div-multiple
 div-multiple c = rw (c .gcd .ensures) (gcd-pos _ _ (omega arith))
 
@@ -25,9 +22,6 @@ cast-multiple c = record { fits = lt-of-le-of-lt (div-le-self _ _) (omega arith)
 mul-multiple : tie.Need-mul-multiple
 mul-multiple c =
     record { fits = lt-of-le-of-lt (mul-le-mul {n₂ = 2 ^ 32 - 1} {m₂ = 2 ^ 32 - 1} (le-trans (div-le-self _ _) (omega arith)) (omega arith)) (omega arith) }
-
-cast-fitting : tie.Need-cast-fitting
-cast-fitting c = search needs
 
 returns-2 : tie.Need-returns-2
 unfolding lcm
@@ -39,4 +33,5 @@ returns-3 c = sym (within-over _ _ (rw (c .before .gcd .ensures) at (c .if2 .lef
 
 pub lcm-spec : {M : Type 1} → statement M
 lcm-spec =
-    tie.close (tie.spec returns gcd-requires div-multiple cast-multiple mul-multiple cast-fitting returns-2 returns-3)
+    tie.close (tie.spec returns (λ c κs. search needs) div-multiple cast-multiple mul-multiple (λ c. search needs) returns-2
+    returns-3)

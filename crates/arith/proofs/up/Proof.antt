@@ -11,15 +11,6 @@ use Rattle.arith.proofs.up.Tie as tie
 returns : tie.Need-returns
 returns c = rw (c .if1 .taken) (sym (up-zero _))
 
-sub-result : tie.Need-sub-result
-sub-result c = search needs
-
-add-result : tie.Need-add-result
-add-result c = search needs
-
-div-result : tie.Need-div-result
-div-result c = search needs
-
 mul-result : tie.Need-mul-result
 mul-result c = record { fits = lt-of-le-of-lt (div-mul-le-self _ _) (omega arith) }
 
@@ -28,4 +19,4 @@ unfolding up
 returns-2 c = search needs
 
 pub up-spec : {M : Type 1} → statement M
-up-spec = tie.close (tie.spec returns sub-result add-result div-result mul-result returns-2)
+up-spec = tie.close (tie.spec returns (λ c. search needs) (λ c. search needs) (λ c. search needs) mul-result returns-2)

@@ -1,54 +1,39 @@
 -- The sheet that the fields make is written, and its size, at most 94, handed over.
 use mathlib.Core.Path.{ap, _∙_}
 use lib.ListN.{length}
-use Rattle.sheet.specs.Answers.{given, after}
 use Rattle.sheet.specs.Calls.{writeOf, bufferAfter}
-use Rattle.bellkettle.specs.Answer.{alone, written}
-use Rattle.bellkettle.specs.Steps.{toldOutcome}
-use Rattle.bellkettle.specs.Endings.{size-told, returned-as, size-most}
+use Rattle.bellkettle.specs.Numbers.{inNumbers, alone}
+use Rattle.bellkettle.specs.Promises.{sizeFor}
+use Rattle.bellkettle.specs.FieldLaws.{size-most}
+use Rattle.bellkettle.specs.ReplyLaws.{tells-as, told-returned}
 use borrow.Author.Needs.{needs}
 use Rattle.bellkettle.proofs.bellkettle_write.Statement.{statement}
 use Rattle.bellkettle.proofs.bellkettle_write.Tie as tie
 
-sheet-from-requires : tie.Need-sheet-from-requires
-sheet-from-requires c κs = search needs
-
-write-requires : tie.Need-write-requires
-write-requires c κs = search needs
-
-size-outcome-requires : tie.Need-size-outcome-requires
-size-outcome-requires c κs = let w = c .before .before .write in size-most (c .before .before .before .before .sheet-from .result) (length (c .before .before .before .before .before .before .before .before .before .before .args .out .now)) (w .result) (w .ensures .0)
-
-hand-requires : tie.Need-hand-requires
-hand-requires c κs = search needs
-
-same-length : tie.Need-same-length
-same-length c = search needs
-
-same-length-2 : tie.Need-same-length-2
-same-length-2 c = search needs
+written-reply-requires : tie.Need-written-reply-requires
+written-reply-requires c κs =
+    let made = c .before .before .before .before in
+    let lent = made .before .before .before in
+    let start = lent .before .before .before in
+    let w = c .before .before .write in
+    size-most (made .sheet-from .result) (length (start .args .out .now)) (w .result) (w .ensures .0)
 
 returns : tie.Need-returns
 returns c =
-    let a = c .before .before .before .before .before .before .before .before .before .before .before .before .before .before .args in
-    let s = c .before .before .before .before .before .before .before .before .sheet-from in
-    let w = c .before .before .before .before .before .before .write in
-    let o = c .before .before .before .size-outcome in
+    let told = c .before .before .before in
+    let writing = told .before .before .before in
+    let w = writing .write in
+    let made = writing .before .before in
+    let s = made .sheet-from in
+    let lent = made .before .before .before in
+    let a = lent .before .before .before .args in
     let room = length (a .out .now) in (
-      returned-as (o .result) (a .values .now)
-          (ap toldOutcome (o .ensures) ∙ size-told (w .result) ∙ ap (λ x. after x (λ n. given (alone n))) (w .ensures .0) ∙ ap (λ x. written x room) (s .ensures))
-          (c .before .hand .ensures),
+      told-returned (a .values .now) (tells-as (told .written-reply .ensures) (ap (inNumbers alone) (w .ensures .0) ∙ ap (λ x. sizeFor x room) (s .ensures))) (c .before .hand .ensures),
       w .ensures .1 ∙ ap (λ x. bufferAfter x (s .result) (a .out .now)) (w .ensures .0) ∙ ap (λ x. bufferAfter (writeOf x room) x (a .out .now)) (s .ensures),
     )
 
 pub bellkettle-write-spec : {M : Type 1} → statement M
 bellkettle-write-spec =
     tie.close
-    (tie.spec
-    sheet-from-requires
-    write-requires
-    size-outcome-requires
-    hand-requires
-    same-length
-    same-length-2
-    returns)
+    (tie.spec (λ c κs. search needs) (λ c κs. search needs) written-reply-requires (λ c κs. search needs)
+    (λ c. search needs) (λ c. search needs) returns)

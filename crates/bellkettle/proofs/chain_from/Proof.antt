@@ -1,70 +1,42 @@
 -- After i turns the first i places are taken.
-use mathlib.Core.Path.{_≡_, refl, ap, ap₂, _∙_}
-use Prim.Native.Nat.{_-_, _≤_, min}
+use mathlib.Core.Path.{_≡_, refl, ap₂, _∙_}
+use Prim.Native.Nat.{_-_, _≤_}
 use native.Mathlib.Omega.{arith}
-use lib.ListN.{getD, set}
+use lib.ListN.{set}
 use Rattle.bits.specs.Bits.{listOf}
 use Rattle.sheet.specs.Calls.{places}
-use Rattle.sheet.specs.PlaceLaws.{places-set, places-most}
+use Rattle.sheet.specs.PlaceLaws.{places-set}
+use Rattle.bellkettle.specs.Fields.{entryFrom}
+use Rattle.bellkettle.specs.FieldLaws.{places-all}
 use borrow.Author.Needs.{needs}
 use Rattle.bellkettle.proofs.chain_from.Statement.{statement}
 use Rattle.bellkettle.proofs.chain_from.Tie as tie
 
 abbrev Inv-loop : tie.InvT-loop
-Inv-loop chain m entries₀ end i₀ entries i = (i ≤ end) × (end ≡ min m 16) × (entries ≡ places 0 i (λ j. getD chain j 0))
+Inv-loop chain entries₀ i₀ entries i = (i ≤ 16) × (entries ≡ places 0 i (entryFrom chain))
 
 abbrev μ-loop : tie.MeasureT-loop
-μ-loop chain m entries₀ end i₀ entries i = end - i
-
-taken-requires : tie.Need-taken-requires Inv-loop μ-loop
-taken-requires c κs = search needs
+μ-loop chain entries₀ i₀ entries i = 16 - i
 
 loop-holds : tie.Need-loop-holds Inv-loop μ-loop
 unfolding listOf
-loop-holds c = (omega arith, c .taken .ensures, refl)
-
-cast-k : tie.Need-cast-k Inv-loop μ-loop
-cast-k c = search needs
-
-byte-at-requires : tie.Need-byte-at-requires Inv-loop μ-loop
-byte-at-requires c κs = search needs
-
-array-write-entries : tie.Need-array-write-entries Inv-loop μ-loop
-array-write-entries c = omega (arith, c .before .before .loop .inv .1)
-
-add-i : tie.Need-add-i Inv-loop μ-loop
-add-i c = search needs
-
-loop-less : tie.Need-loop-less Inv-loop μ-loop
-loop-less c = search needs
+loop-holds c = (omega arith, refl)
 
 loop-again : tie.Need-loop-again Inv-loop μ-loop
 loop-again c =
-    let a = c .before .before .before .before .before .args in
-    let l = c .before .before .loop in (
-      omega arith,
-      l .inv .1,
-      ap₂ (λ x y. set x (l .i) y) (l .inv .2) (c .byte-at .ensures) ∙ places-set 0 (λ j. getD (a .chain .now) j 0) (l .i) (omega (arith, l .inv .1)),
-    )
+    let turn = c .before .before in
+    let l = turn .loop in
+    let a = turn .before .before .args in
+    (omega arith, ap₂ (λ x y. set x (l .i) y) (l .inv .1) (c .byte-at .ensures) ∙ places-set 0 (entryFrom (a .chain .now)) (l .i) (omega arith))
 
 returns : tie.Need-returns Inv-loop μ-loop
 returns c =
-    let a = c .before .before .before .before .args in
-    let l = c .before .loop in
-    l .inv .2 ∙ ap (λ k. places 0 k (λ j. getD (a .chain .now) j 0)) {x = l .i} {y = min (a .m) 16} (omega (arith, l .inv .1)) ∙ places-most 0 (λ j. getD (a .chain .now) j 0) (a .m)
+    let turn = c .before in
+    let a = turn .before .before .args in
+    places-all 0 (entryFrom (a .chain .now)) (turn .loop .inv .1) (omega (arith, turn .loop .inv .0))
 
 pub chain-from-spec : {M : Type 1} → statement M
 chain-from-spec =
     tie.close
-    (tie.spec
-    Inv-loop
-    μ-loop
-    taken-requires
-    loop-holds
-    cast-k
-    byte-at-requires
-    array-write-entries
-    add-i
-    loop-less
-    loop-again
-    returns)
+    (tie.spec Inv-loop μ-loop loop-holds (λ c κs. search needs) (λ c. search needs) (λ c. search needs)
+    (λ c. search needs) loop-again returns)

@@ -1,134 +1,62 @@
--- Each value of the outcome is put in its place.
-use mathlib.Core.Path.{refl, ap, _∙_}
-use mathlib.Core.List.{List}
-use lib.IntN.{ℤ, pos}
-use lib.ListN.{set}
-use mir.Syntax.{w32}
+-- After i turns the first i values are in their places.
+use mathlib.Core.Path.{_≡_, refl, sym, ap, ap₂, _∙_}
+use Prim.Native.Nat.{_-_, _≤_}
+use native.Mathlib.Omega.{arith}
+use lib.IntN.{pos}
+use lib.ListN.{length, length-map, set, take}
+use lib.Seq.{sets, length-sets}
+use mir.Syntax.{w64}
 use mir.Facts.{toZ-ofZ}
+use Rattle.bellkettle.specs.ReplyLaws.{sets-take}
 use borrow.Author.Needs.{needs}
 use Rattle.bellkettle.proofs.hand.Statement.{statement}
 use Rattle.bellkettle.proofs.hand.Tie as tie
 
-enum-known-o : tie.Need-enum-known-o
-enum-known-o c = search needs
+abbrev Inv-loop : tie.InvT-loop
+Inv-loop values₀ reply i₀ values i = (i ≤ reply .count) × (values ≡ sets values₀ 0 (take i (reply .values)))
 
-put-requires : tie.Need-put-requires
-put-requires c κs = search needs
+abbrev μ-loop : tie.MeasureT-loop
+μ-loop values₀ reply i₀ values i = reply .count - i
 
-enum-known-o-2 : tie.Need-enum-known-o-2
-enum-known-o-2 c = search needs
+-- The turn that a value was put in.
+abbrev turn : tie.After-values Inv-loop μ-loop → tie.At-loop Inv-loop μ-loop
+turn c = c .before .before .before .before .before
 
-put-requires-2 : tie.Need-put-requires-2
-put-requires-2 c κs = search needs
+loop-holds : tie.Need-loop-holds Inv-loop μ-loop
+loop-holds c = (omega arith, refl)
 
-put-requires-3 : tie.Need-put-requires-3
-put-requires-3 c κs = search needs
+mul-put : tie.Need-mul-put Inv-loop μ-loop
+mul-put c = omega (arith, c .before .before .before .pre)
 
-enum-known-o-3 : tie.Need-enum-known-o-3
-enum-known-o-3 c = search needs
+element-copy-out-put : tie.Need-element-copy-out-put Inv-loop μ-loop
+element-copy-out-put c = omega (arith, c .before .before .before .pre)
 
-put-requires-4 : tie.Need-put-requires-4
-put-requires-4 c κs = search needs
+add-i : tie.Need-add-i Inv-loop μ-loop
+add-i c = omega (arith, turn c .before .pre)
 
-put-requires-5 : tie.Need-put-requires-5
-put-requires-5 c κs = search needs
-
-put-requires-6 : tie.Need-put-requires-6
-put-requires-6 c κs = search needs
-
-enum-known-o-4 : tie.Need-enum-known-o-4
-enum-known-o-4 c = search needs
-
-put-signed-requires : tie.Need-put-signed-requires
-put-signed-requires c κs = search needs
-
-enum-known-o-5 : tie.Need-enum-known-o-5
-enum-known-o-5 c = search needs
-
-put-summary-requires : tie.Need-put-summary-requires
-put-summary-requires c κs = search needs
-
-enum-known-o-6 : tie.Need-enum-known-o-6
-enum-known-o-6 c = search needs
-
-refuse-requires : tie.Need-refuse-requires
-refuse-requires c κs = search needs
-
-same-length : tie.Need-same-length
-same-length c = search needs
-
-returns : tie.Need-returns
-returns c = rw (c .before .before .before .before .o .given .1) (refl, c .before .put .ensures)
-
-same-length-2 : tie.Need-same-length-2
-same-length-2 c = search needs
-
-returns-2 : tie.Need-returns-2
-returns-2 c =
-    let kept = c .before .before .before .before .before .before .before .o2 .given in
-    rw (kept .1) (refl, c .before .put3 .ensures ∙ ap (λ (l : List ℤ). set {A = ℤ} l 1 (pos (kept .0 .1 .0))) (c .before .before .before .before .put2 .ensures))
-
-same-length-3 : tie.Need-same-length-3
-same-length-3 c = search needs
-
-returns-3 : tie.Need-returns-3
-returns-3 c =
-    let kept = c .before .before .before .before .before .before .before .before .before .before .o3 .given in
-    rw (kept .1) (
-      refl,
-      c .before .put6 .ensures
-          ∙ ap (λ (l : List ℤ). set {A = ℤ} l 2 (pos (kept .0 .1 .1 .0)))
-          (c .before .before .before .before .put5 .ensures ∙ ap (λ (l : List ℤ). set {A = ℤ} l 1 (pos (kept .0 .1 .0))) (c .before .before .before .before .before .before .before .put4 .ensures)),
+loop-again : tie.Need-loop-again Inv-loop μ-loop
+loop-again c =
+    let start = turn c .before in
+    let l = turn c .loop in
+    let reply = start .args .t1 in
+    let seven : length (reply .values) ≡ 7 = sym (length-map (reply .values) _) ∙ start .good .0 .1 .1 .1 .1 .0 .1 .0 .1 in (
+      omega arith,
+      c .before .put .ensures
+          ∙ ap₂ (λ x z. set x (l .i) z) (l .inv .1) (toZ-ofZ {w = w64} (record { sfits = c .before .before .put-arg2 .given }))
+          ∙ sets-take (pos 0) (l .i) (reply .values) (start .args .values .now) (omega (arith, start .pre, seven)),
     )
 
-same-length-4 : tie.Need-same-length-4
-same-length-4 c = search needs
+same-length : tie.Need-same-length Inv-loop μ-loop
+same-length c = ap length (c .before .loop .inv .1) ∙ length-sets (c .before .before .args .values .now) 0 (take (c .before .loop .i) (c .before .before .args .t1 .values))
 
-returns-4 : tie.Need-returns-4
-returns-4 c =
-    let old = c .before .before .before .before .before .before .args .values .now in
-    rw (c .before .before .before .before .o4 .given .1) (refl, c .before .put-signed .ensures ∙ ap (λ (x : ℤ). set {A = ℤ} old 0 x) (toZ-ofZ {w = w32} (record { sfits = c .before .before .before .known-told4 .given .0 .1 })))
-
-same-length-5 : tie.Need-same-length-5
-same-length-5 c = search needs
-
-returns-5 : tie.Need-returns-5
-returns-5 c = rw (c .before .before .before .before .o5 .given .1) (refl, c .before .put-summary .ensures)
-
-same-length-6 : tie.Need-same-length-6
-same-length-6 c = search needs
-
-returns-6 : tie.Need-returns-6
-returns-6 c = rw (c .before .before .before .before .o6 .given .1) (c .before .refuse .ensures)
+returns : tie.Need-returns Inv-loop μ-loop
+returns c =
+    let start = c .before .before in
+    let last : c .before .loop .i ≡ start .args .t1 .count = omega (arith, c .before .loop .inv .0) in
+    (refl, c .before .loop .inv .1 ∙ ap (λ k. sets (start .args .values .now) 0 (take k (start .args .t1 .values))) last)
 
 pub hand-spec : {M : Type 1} → statement M
 hand-spec =
     tie.close
-    (tie.spec
-    enum-known-o
-    put-requires
-    enum-known-o-2
-    put-requires-2
-    put-requires-3
-    enum-known-o-3
-    put-requires-4
-    put-requires-5
-    put-requires-6
-    enum-known-o-4
-    put-signed-requires
-    enum-known-o-5
-    put-summary-requires
-    enum-known-o-6
-    refuse-requires
-    same-length
-    returns
-    same-length-2
-    returns-2
-    same-length-3
-    returns-3
-    same-length-4
-    returns-4
-    same-length-5
-    returns-5
-    same-length-6
-    returns-6)
+    (tie.spec Inv-loop μ-loop loop-holds mul-put element-copy-out-put (λ c κs. search needs) add-i (λ c. search needs)
+    loop-again same-length returns)

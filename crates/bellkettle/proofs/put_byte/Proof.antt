@@ -5,12 +5,6 @@ use borrow.Author.Needs.{needs}
 use Rattle.bellkettle.proofs.put_byte.Statement.{statement}
 use Rattle.bellkettle.proofs.put_byte.Tie as tie
 
-slice-write-bytes : tie.Need-slice-write-bytes
-slice-write-bytes c = search needs
-
-same-length : tie.Need-same-length
-same-length c = search needs
-
 returns : tie.Need-returns
 returns c = refl
 
@@ -18,4 +12,4 @@ returns-2 : tie.Need-returns-2
 returns-2 c = let a = c .before .args in sym (set-out (a .bytes .now) (a .i) (a .x) (c .if1 .left))
 
 pub put-byte-spec : {M : Type 1} → statement M
-put-byte-spec = tie.close (tie.spec slice-write-bytes same-length returns returns-2)
+put-byte-spec = tie.close (tie.spec (λ c. search needs) (λ c. search needs) returns returns-2)

@@ -15,9 +15,6 @@ Inv-loop bytes at first value₀ k₀ value k = (k ≤ 5) × (value ≡ number (
 abbrev μ-loop : tie.MeasureT-loop
 μ-loop bytes at first value₀ k₀ value k = 5 - k
 
-cast-first : tie.Need-cast-first Inv-loop μ-loop
-cast-first c = search needs
-
 loop-holds : tie.Need-loop-holds Inv-loop μ-loop
 unfolding number
 loop-holds c = (omega arith, refl)
@@ -28,24 +25,12 @@ mul-value c =
     let l = c .before .loop in
     omega (arith, number-lt (unpack (a .bytes .now)) (a .at / 8 * 8) (l .k * 8), pow-mono {i = l .k * 8} {j = 32} (omega arith))
 
-add-byte : tie.Need-add-byte Inv-loop μ-loop
-add-byte c = search needs
-
-byte-requires : tie.Need-byte-requires Inv-loop μ-loop
-byte-requires c κs = search needs
-
 add-value : tie.Need-add-value Inv-loop μ-loop
 add-value c =
     let a = c .before .before .before .before .args in
     let l = c .before .before .loop in
     let bs = unpack (a .bytes .now) in
     omega (arith, number-lt bs (a .at / 8 * 8) (l .k * 8), pow-mono {i = l .k * 8} {j = 32} (omega arith), c .byte .ensures, number-lt bs ((a .at / 8 + l .k) * 8) 8)
-
-add-k : tie.Need-add-k Inv-loop μ-loop
-add-k c = search needs
-
-loop-less : tie.Need-loop-less Inv-loop μ-loop
-loop-less c = search needs
 
 loop-again : tie.Need-loop-again Inv-loop μ-loop
 loop-again c =
@@ -66,16 +51,5 @@ returns c =
 pub around-spec : {M : Type 1} → statement M
 around-spec =
     tie.close
-    (tie.spec
-    Inv-loop
-    μ-loop
-    cast-first
-    loop-holds
-    mul-value
-    add-byte
-    byte-requires
-    add-value
-    add-k
-    loop-less
-    loop-again
-    returns)
+    (tie.spec Inv-loop μ-loop (λ c. search needs) loop-holds mul-value (λ c. search needs) (λ c κs. search needs)
+    add-value (λ c. search needs) (λ c. search needs) loop-again returns)

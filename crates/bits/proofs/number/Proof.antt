@@ -10,30 +10,6 @@ use Rattle.bits.specs.Laws.{number-within}
 use Rattle.bits.proofs.number.Statement.{statement}
 use Rattle.bits.proofs.number.Tie as tie
 
-held-requires : tie.Need-held-requires
-held-requires c κs = search needs
-
-sub-rest : tie.Need-sub-rest
-sub-rest c = search needs
-
-sub-rest-2 : tie.Need-sub-rest-2
-sub-rest-2 c = search needs
-
-around-requires : tie.Need-around-requires
-around-requires c κs = search needs
-
-cast-result : tie.Need-cast-result
-cast-result c = search needs
-
-shr-result : tie.Need-shr-result
-shr-result c = search needs
-
-cast-weight : tie.Need-cast-weight
-cast-weight c = search needs
-
-weight-requires : tie.Need-weight-requires
-weight-requires c κs = search needs
-
 rem-result : tie.Need-rem-result
 rem-result c = omega (arith, c .weight .ensures, pow-pos (c .before .before .held .result))
 
@@ -56,15 +32,5 @@ returns c =
 pub number-spec : {M : Type 1} → statement M
 number-spec =
     tie.close
-    (tie.spec
-    held-requires
-    sub-rest
-    sub-rest-2
-    around-requires
-    cast-result
-    shr-result
-    cast-weight
-    weight-requires
-    rem-result
-    cast-result-2
-    returns)
+    (tie.spec (λ c κs. search needs) (λ c. search needs) (λ c. search needs) (λ c κs. search needs) (λ c. search needs)
+    (λ c. search needs) (λ c. search needs) (λ c κs. search needs) rem-result cast-result-2 returns)

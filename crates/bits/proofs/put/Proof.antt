@@ -30,9 +30,6 @@ Inv-loop out₀ at width value end k₀ out k = (k ≤ end) × (end ≡ min widt
 abbrev μ-loop : tie.MeasureT-loop
 μ-loop out₀ at width value end k₀ out k = end - k
 
-held-requires : tie.Need-held-requires Inv-loop μ-loop
-held-requires c κs = search needs
-
 loop-holds : tie.Need-loop-holds Inv-loop μ-loop
 loop-holds c =
     let a = c .before .before .args in (
@@ -42,42 +39,18 @@ loop-holds c =
       ap₂ (λ x y. sets (unpack (a .out .now)) x (bits y (a .value))) {x = a .at + 0} {y = a .at} {u = c .held .result - 0} {v = c .held .result} (omega arith) (omega arith),
     )
 
-cast-put-bit : tie.Need-cast-put-bit Inv-loop μ-loop
-cast-put-bit c = search needs
-
-add-put-bit : tie.Need-add-put-bit Inv-loop μ-loop
-add-put-bit c = search needs
-
-sub-put-bit : tie.Need-sub-put-bit Inv-loop μ-loop
-sub-put-bit c = search needs
-
-sub-put-bit-2 : tie.Need-sub-put-bit-2 Inv-loop μ-loop
-sub-put-bit-2 c = search needs
-
-shr-put-bit : tie.Need-shr-put-bit Inv-loop μ-loop
-shr-put-bit c = search needs
-
-cast-put-bit-2 : tie.Need-cast-put-bit-2 Inv-loop μ-loop
-cast-put-bit-2 c = search needs
-
-put-bit-requires : tie.Need-put-bit-requires Inv-loop μ-loop
-put-bit-requires c κs = search needs
-
-add-k : tie.Need-add-k Inv-loop μ-loop
-add-k c = search needs
-
-loop-less : tie.Need-loop-less Inv-loop μ-loop
-loop-less c = search needs
-
 loop-again : tie.Need-loop-again Inv-loop μ-loop
 loop-again c =
-    let a = c .before .before .before .before .before .before .before .before .args in
-    let l = c .before .before .before .before .before .loop in
-    let end = c .before .before .before .before .before .before .held .result in
-    let e = c .before .before .put-bit .ensures in (
+    let called = c .before .before in
+    let turn = called .before .before .before in
+    let held = turn .before in
+    let a = held .before .before .args in
+    let l = turn .loop in
+    let end = held .held .result in
+    let e = called .put-bit .ensures in (
       omega arith,
       l .inv .1,
-      omega (arith, length-unpack (c .before .before .put-bit .last .0), length-unpack (l .out), ap length e, length-set (unpack (l .out)) (a .at + l .k) (odd (a .value / 2 ^ (end - 1 - l .k) % 2)), l .inv .2),
+      omega (arith, length-unpack (called .put-bit .last .0), length-unpack (l .out), ap length e, length-set (unpack (l .out)) (a .at + l .k) (odd (a .value / 2 ^ (end - 1 - l .k) % 2)), l .inv .2),
       ap (λ x. sets x (a .at + (l .k + 1)) (bits (end - (l .k + 1)) (a .value))) e ∙ step (unpack (l .out)) (a .at) (l .k) end (a .value) (omega arith) ∙ l .inv .3,
     )
 
@@ -97,20 +70,6 @@ returns c =
 pub put-spec : {M : Type 1} → statement M
 put-spec =
     tie.close
-    (tie.spec
-    Inv-loop
-    μ-loop
-    held-requires
-    loop-holds
-    cast-put-bit
-    add-put-bit
-    sub-put-bit
-    sub-put-bit-2
-    shr-put-bit
-    cast-put-bit-2
-    put-bit-requires
-    add-k
-    loop-less
-    loop-again
-    same-length
-    returns)
+    (tie.spec Inv-loop μ-loop (λ c κs. search needs) loop-holds (λ c. search needs) (λ c. search needs)
+    (λ c. search needs) (λ c. search needs) (λ c. search needs) (λ c. search needs) (λ c κs. search needs)
+    (λ c. search needs) (λ c. search needs) loop-again same-length returns)

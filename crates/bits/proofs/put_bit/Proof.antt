@@ -10,21 +10,6 @@ use borrow.Author.Needs.{needs}
 use Rattle.bits.proofs.put_bit.Statement.{statement}
 use Rattle.bits.proofs.put_bit.Tie as tie
 
-slice-read-with-bit : tie.Need-slice-read-with-bit
-slice-read-with-bit c = search needs
-
-sub-with-bit : tie.Need-sub-with-bit
-sub-with-bit c = search needs
-
-with-bit-requires : tie.Need-with-bit-requires
-with-bit-requires c κs = search needs
-
-slice-write-out : tie.Need-slice-write-out
-slice-write-out c = search needs
-
-same-length : tie.Need-same-length
-same-length c = search needs
-
 returns : tie.Need-returns
 returns c =
     let a = c .before .before .before .before .args in
@@ -41,11 +26,5 @@ returns-2 c =
 pub put-bit-spec : {M : Type 1} → statement M
 put-bit-spec =
     tie.close
-    (tie.spec
-    slice-read-with-bit
-    sub-with-bit
-    with-bit-requires
-    slice-write-out
-    same-length
-    returns
-    returns-2)
+    (tie.spec (λ c. search needs) (λ c. search needs) (λ c κs. search needs) (λ c. search needs) (λ c. search needs)
+    returns returns-2)

@@ -51,12 +51,6 @@ facts c =
     let a = c .before .before .args in
     subst (λ w. Changed (c .wide .result) w (a .b) (7 - a .e)) (sym (c .before .weight .ensures)) (changed (c .wide .result) (a .b) (a .e) (omega arith) (omega arith) (omega arith))
 
-weight-requires : tie.Need-weight-requires
-weight-requires c κs = search needs
-
-wide-requires : tie.Need-wide-requires
-wide-requires c κs = search needs
-
 mul-y : tie.Need-mul-y
 mul-y c = omega (arith, facts c)
 
@@ -81,4 +75,4 @@ returns c = facts c .bits-are ∙ ap (λ x. set (bits 8 x) (7 - c .before .befor
 pub with-bit-spec : {M : Type 1} → statement M
 with-bit-spec =
     tie.close
-    (tie.spec weight-requires wide-requires mul-y add-y div-y mul-y-2 sub-y cast-result returns)
+    (tie.spec (λ c κs. search needs) (λ c κs. search needs) mul-y add-y div-y mul-y-2 sub-y cast-result returns)

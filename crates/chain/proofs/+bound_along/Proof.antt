@@ -8,9 +8,9 @@ use borrow.Fn.Kinds.{In}
 use borrow.Fn.PlainCycle.{Measures, is, falls, and}
 use borrow.Author.Needs.{needs}
 use Rattle.theory.specs.declared.Task.{Task}
-use Rattle.theory.specs.Chain.{bound}
-use Rattle.chain.specs.Answer.{firstOf, restOf}
-use Rattle.chain.specs.Steps.{mostWait, tasksIn, greatestIn, Path}
+use Rattle.theory.specs.Model.Chain.{bound}
+use Rattle.sheet.specs.Tasks.{firstOf, restOf}
+use Rattle.chain.specs.Conditions.{mostWait, tasksIn, greatestIn, ChainIn}
 use Rattle.chain.specs.Largest.{pair-most}
 use Rattle.chain.specs.WalkLaws.{part-from, bound-one, bound-more, entry-small-task, path-rest, path-bound}
 use Rattle.chain.proofs.bound_along.Reads as bound-along
@@ -88,7 +88,7 @@ module _ (t : ℕ) (c : bound-along-lts.After-pair-bound (claims t) (bound-along
   more : 1 < length chain
   more = omega (arith, start .pre .1 .0 .some, c .before .before .if1 .left)
 
-  rest-path : Path (start .args .periods .now) (start .args .starts .now) (start .args .counts .now) (start .args .table .now) (restOf chain)
+  rest-path : ChainIn (start .args .periods .now) (start .args .starts .now) (start .args .counts .now) (start .args .table .now) (restOf chain)
   rest-path = path-rest (start .args .ranks .now) (start .pre .1 .0) more
 
   ticks-most : c .pair-bound .result ≤ mostWait

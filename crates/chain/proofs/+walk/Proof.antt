@@ -9,10 +9,10 @@ use borrow.Fn.Kinds.{In}
 use borrow.Fn.PlainCycle.{Measures, is, falls, and}
 use borrow.Author.Needs.{needs}
 use Rattle.theory.specs.declared.Task.{Task}
-use Rattle.theory.specs.Model.{release}
-use Rattle.theory.specs.Chain.{Table, delay}
-use Rattle.chain.specs.Answer.{firstOf, restOf}
-use Rattle.chain.specs.Steps.{mostWait, tasksIn, rowsIn, Path}
+use Rattle.theory.specs.Model.Schedule.{release}
+use Rattle.theory.specs.Model.Chain.{Table, delay}
+use Rattle.sheet.specs.Tasks.{firstOf, restOf}
+use Rattle.chain.specs.Conditions.{mostWait, tasksIn, rowsIn, ChainIn}
 use Rattle.chain.specs.Largest.{next-most}
 use Rattle.chain.specs.WalkLaws.{part-from, delay-one, delay-more, entry-small, path-rest, path-delay}
 use Rattle.chain.proofs.walk.Reads as walk
@@ -93,7 +93,7 @@ module _ (t : ℕ) (c : walk-lts.After-hand-over (claims t) (walk-at t) walk.Pos
   more : 1 < length chain
   more = omega (arith, start .pre .1 .0 .some, c .before .before .if1 .left)
 
-  rest-path : Path (start .args .periods .now) (start .args .starts .now) (start .args .counts .now) (start .args .table .now) (restOf chain)
+  rest-path : ChainIn (start .args .periods .now) (start .args .starts .now) (start .args .counts .now) (start .args .table .now) (restOf chain)
   rest-path = path-rest (start .args .ranks .now) (start .pre .1 .0) more
 
   next-near : release ts (getD chain 1 0) (c .hand-over .result .job) ≤ release ts (firstOf chain) (start .args .k) + mostWait

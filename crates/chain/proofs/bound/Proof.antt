@@ -2,75 +2,53 @@
 use mathlib.Core.Path.{_≡_, sym, ap, _∙_}
 use lib.ListN.{length}
 use borrow.Author.Needs.{needs}
-use Rattle.sheet.specs.Answers.{given}
-use Rattle.sheet.specs.Told.{refusal}
-use Rattle.schedule.specs.Answer.{tasksOf, responsesOf, toldTotals}
-use Rattle.schedule.specs.Results.{responses-given}
-use Rattle.chain.specs.Answer.{boundOf}
-use Rattle.chain.specs.Steps.{responsesRefusal}
-use Rattle.chain.specs.Cases.{filled-taken, table-leaves, ended-no, ended-given}
-use Rattle.schedule.specs.Results.{filled-holds}
+use Rattle.answers.specs.Answers.{given, refusal}
+use Rattle.schedule.specs.Calls.{responsesOf, toldTotals}
+use Rattle.schedule.specs.CallLaws.{responses-no}
+use Rattle.chain.specs.Calls.{boundOf}
+use Rattle.chain.specs.CallLaws.{answers-no, answers-given, filled-ready}
 use Rattle.chain.proofs.bound.Statement.{statement}
 use Rattle.chain.proofs.bound.Tie as tie
 
+-- The start, and the table as `responses` leaves it: before a refusal, and where it is filled.
+abbrev start : tie.After-responses → tie.Start
+start c = c .before .before .before
+
+abbrev refused : tie.After-enum-told → tie.After-responses
+refused c = c .before .before .before .before
+
+abbrev done : tie.After-filled → tie.After-responses
+done c = c .before .before .before .before
+
 -- The table is filled.
-filled : (c : tie.After-filled) → let a = c .before .before .before .before .before .before .before .args in responsesOf (a .s) (length (a .table .now)) ≡ given (c .filled .given .0 .0)
-filled c = sym (c .before .before .before .before .responses .ensures .0) ∙ ap toldTotals (c .filled .given .1)
-
-responses-requires : tie.Need-responses-requires
-responses-requires c κs = search needs
-
-enum-known-filled : tie.Need-enum-known-filled
-enum-known-filled c = search needs
-
-enum-told : tie.Need-enum-told
-enum-told c = search needs
-
-responses-refusal-requires : tie.Need-responses-refusal-requires
-responses-refusal-requires c κs = search needs
-
-same-length : tie.Need-same-length
-same-length c = search needs
+filled : (c : tie.After-filled) → let a = start (done c) .args in responsesOf (a .s) (length (a .table .now)) ≡ given (c .filled .given .0 .0)
+filled c = sym (done c .responses .ensures .0) ∙ ap toldTotals (c .filled .given .1)
 
 returns : tie.Need-returns
 unfolding boundOf
 returns c =
-    let a = c .before .before .before .before .before .before .before .before .args in
-    let r = c .before .before .before .before .before .responses in
+    let a = start (refused (c .before)) .args in
+    let r = refused (c .before) .responses in
     let no = c .before .enum-told .given .1 in
-    ended-no (tasksOf (a .s)) (a .table .now) _ (c .responses-refusal .result)
-    (sym (r .ensures .0) ∙ ap toldTotals no ∙ ap refusal (sym (c .responses-refusal .ensures ∙ ap responsesRefusal no)))
-    (r .ensures .1 ∙ table-leaves (responsesOf (a .s) (length (a .table .now))) (tasksOf (a .s)) (a .table .now))
+    answers-no (a .s) (a .table .now) _ (c .responses-refusal .result)
+    (responses-no (r .ensures .0) no (c .responses-refusal .ensures))
+    (r .ensures .1)
 
 bound-in-requires : tie.Need-bound-in-requires
 bound-in-requires c κs =
-    let a = c .before .before .before .before .before .before .before .before .before .args in
-    let f = filled (c .before .before) in (
-      filled-taken (a .s) (length (a .table .now)) f,
-      (responses-given (a .s) (length (a .table .now)) f .hyperperiod-is, filled-holds (a .s) (a .table .now) f (c .before .before .before .before .before .before .responses .ensures .1)),
-    )
-
-same-length-2 : tie.Need-same-length-2
-same-length-2 c = search needs
+    let a = start (done (c .before .before)) .args in
+    filled-ready (a .s) (a .table .now) (filled (c .before .before)) (done (c .before .before) .responses .ensures .1)
 
 returns-2 : tie.Need-returns-2
 unfolding boundOf
 returns-2 c =
-    let a = c .before .before .before .before .before .before .before .before .before .before .args in
-    let r = c .before .before .before .before .before .before .before .responses in
-    ended-given (tasksOf (a .s)) (a .table .now) _ (filled (c .before .before .before)) (ap given (sym (c .bound-in .ensures)))
-    (r .ensures .1 ∙ table-leaves (responsesOf (a .s) (length (a .table .now))) (tasksOf (a .s)) (a .table .now))
+    let a = start (done (c .before .before .before)) .args in
+    let r = done (c .before .before .before) .responses in
+    answers-given (a .s) (a .table .now) _ (filled (c .before .before .before)) (ap given (sym (c .bound-in .ensures)))
+    (r .ensures .1)
 
 pub bound-spec : {M : Type 1} → statement M
 bound-spec =
     tie.close
-    (tie.spec
-    responses-requires
-    enum-known-filled
-    enum-told
-    responses-refusal-requires
-    same-length
-    returns
-    bound-in-requires
-    same-length-2
-    returns-2)
+    (tie.spec (λ c κs. search needs) (λ c. search needs) (λ c. search needs) (λ c κs. search needs) (λ c. search needs)
+    returns bound-in-requires (λ c. search needs) returns-2)

@@ -4,72 +4,81 @@ use Prim.Native.Nat.{_*_, _/_, _%_, _≤_, _<_}
 use native.Mathlib.Omega.{arith}
 use lib.ListN.{length}
 use borrow.Author.Needs.{needs}
-use Rattle.theory.specs.Model.{period}
-use Rattle.theory.specs.Responses.{hyperperiod}
-use Rattle.sheet.specs.Answers.{given, after}
-use Rattle.sheet.specs.Sound.{Sound, judged-sound}
-use Rattle.sheet.specs.Told.{refusal}
-use Rattle.schedule.specs.Answer.{tasksOf, sizesOf, responsesOf, toldSize, toldTotals}
-use Rattle.schedule.specs.Cases.{sizes-given}
-use Rattle.schedule.specs.Results.{responses-given}
-use Rattle.schedule.specs.Steps.{refusalOf}
-use Rattle.chain.specs.Answer.{chainOf, firstOf, delayAt, delayOf}
-use Rattle.chain.specs.Steps.{responsesRefusal}
-use Rattle.chain.specs.SheetLaws.{job-early, job-release}
-use Rattle.chain.specs.Cases.{filled-taken, table-leaves, ended-no, ended-given, ended-number, sizes-untouched, delay-beyond, delay-between, delay-asked}
-use Rattle.schedule.specs.Results.{filled-holds}
+use Rattle.theory.specs.Model.Schedule.{period}
+use Rattle.theory.specs.Model.Responses.{hyperperiod}
+use Rattle.answers.specs.Answers.{given, after, refusal}
+use Rattle.sheet.specs.Sound.{Sound}
+use Rattle.sheet.specs.SoundLaws.{judged-sound}
+use Rattle.theory.specs.Analysis.ChainLaws.{chain-head}
+use Rattle.sheet.specs.TaskLaws.{chain-known}
+use Rattle.sheet.specs.Tasks.{tasksOf, chainOf, firstOf, restOf}
+use Rattle.schedule.specs.Calls.{sizesOf, responsesOf, toldSize, toldTotals}
+use Rattle.schedule.specs.CallLaws.{sizes-no, responses-no, sizes-given}
+use Rattle.chain.specs.Calls.{delayAt, delayOf}
+use Rattle.chain.specs.CallLaws.{filled-ready, answers-no, answers-given, answers-number, sizes-untouched, delay-beyond, delay-between, delay-asked}
+use Rattle.chain.specs.ReleaseLaws.{job-early, job-release}
 use Rattle.chain.proofs.delay.Statement.{statement}
 use Rattle.chain.proofs.delay.Tie as tie
 
+-- The start; where H and J are refused or known, and the release then lies between two of the first task's or is one; and the table as `responses` leaves it, before a refusal and where it is filled.
+abbrev start : tie.After-z → tie.Start
+start c = c .before .before .before .before
+
+abbrev unsized : tie.After-enum-told → tie.Start
+unsized c = c .before .before .before .before
+
+abbrev between : tie.Then2 → tie.After-z
+between c = c .before .before .before .before .before
+
+abbrev sized : tie.Else2 → tie.After-z
+sized c = c .before .before .before .before .before
+
+abbrev judged : tie.After-responses → tie.Else2
+judged c = c .before .before
+
+abbrev refused : tie.After-enum-told2 → tie.After-responses
+refused c = c .before .before .before .before
+
+abbrev done : tie.After-filled → tie.After-responses
+done c = c .before .before .before .before
+
 -- H and J are within their limits.
-fits : (c : tie.After-z) → sizesOf (c .before .before .before .before .args .s) ≡ given (c .z .given .0 .0)
+fits : (c : tie.After-z) → sizesOf (start c .args .s) ≡ given (c .z .given .0 .0)
 fits c = sym (c .before .before .sizes .ensures) ∙ ap toldSize (c .z .given .1)
 
-sound : (c : tie.After-z) → Sound (c .before .before .before .before .args .s)
-sound c = let s = c .before .before .before .before .args .s in judged-sound s (sizes-given s (fits c) .judged-fine)
+sound : (c : tie.After-z) → Sound (start c .args .s)
+sound c = let s = start c .args .s in judged-sound s (sizes-given s (fits c) .judged-fine)
 
 -- The release is before H,
-early : (c : tie.Else1) → let a = c .before .before .before .before .before .before .before .args in a .release < hyperperiod (tasksOf (a .s))
+early : (c : tie.Else1) → let a = start (c .before .before .before) .args in a .release < hyperperiod (tasksOf (a .s))
 early c = omega (arith, c .if1 .left, sizes-given _ (fits (c .before .before .before)) .hyperperiod-is)
 
 -- and one of the first task's.
-whole : (c : tie.Else2) → let a = c .before .before .before .before .before .before .before .before .before .args in a .release % period (tasksOf (a .s)) (firstOf (chainOf (a .s))) ≤ 0
+whole : (c : tie.Else2) → let a = start (sized c) .args in a .release % period (tasksOf (a .s)) (firstOf (chainOf (a .s))) ≤ 0
 whole c = rw (← c .before .first-period .ensures .0) (c .if2 .left)
 
-asked : (c : tie.Else2) → let a = c .before .before .before .before .before .before .before .before .before .args in
+asked : (c : tie.Else2) → let a = start (sized c) .args in
     delayOf (a .s) (a .release) (length (a .table .now)) ≡ after (responsesOf (a .s) (length (a .table .now))) (λ totals. given (delayAt (tasksOf (a .s)) (chainOf (a .s)) (a .release)))
-asked c = let a = c .before .before .before .before .before .before .before .before .before .args in delay-asked (a .s) (length (a .table .now)) (fits (c .before .before .before .before .before)) (a .release) (early (c .before .before)) (whole c)
+asked c = let a = start (sized c) .args in delay-asked (a .s) (length (a .table .now)) (fits (sized c)) (a .release) (early (c .before .before)) (whole c)
 
 -- The table is filled.
-filled : (c : tie.After-filled) → let a = c .before .before .before .before .before .before .before .before .before .before .before .before .before .before .before .args in responsesOf (a .s) (length (a .table .now)) ≡ given (c .filled .given .0 .0)
-filled c = sym (c .before .before .before .before .responses .ensures .0) ∙ ap toldTotals (c .filled .given .1)
-
-sizes-requires : tie.Need-sizes-requires
-sizes-requires c κs = search needs
-
-enum-known-z : tie.Need-enum-known-z
-enum-known-z c = search needs
-
-enum-told : tie.Need-enum-told
-enum-told c = search needs
-
-sizes-refusal-requires : tie.Need-sizes-refusal-requires
-sizes-refusal-requires c κs = search needs
+filled : (c : tie.After-filled) → let a = start (sized (judged (done c))) .args in responsesOf (a .s) (length (a .table .now)) ≡ given (c .filled .given .0 .0)
+filled c = sym (done c .responses .ensures .0) ∙ ap toldTotals (c .filled .given .1)
 
 returns : tie.Need-returns
 unfolding delayOf
 returns c =
-    let a = c .before .before .before .before .before .args in
+    let a = unsized (c .before) .args in
     let no = c .before .enum-told .given .1 in
     let e : sizesOf (a .s) ≡ refusal (c .sizes-refusal .result) =
-    sym (c .before .before .before .sizes .ensures) ∙ ap toldSize no ∙ ap refusal (sym (c .sizes-refusal .ensures ∙ ap refusalOf no)) in
-    ended-no (tasksOf (a .s)) (a .table .now) _ (c .sizes-refusal .result) e (sizes-untouched (a .s) (a .table .now) (c .sizes-refusal .result) e)
+    sizes-no (c .before .before .before .sizes .ensures) no (c .sizes-refusal .ensures) in
+    answers-no (a .s) (a .table .now) _ (c .sizes-refusal .result) e (sizes-untouched (a .s) (a .table .now) (c .sizes-refusal .result) e)
 
 returns-2 : tie.Need-returns-2
 returns-2 c =
-    let a = c .before .before .before .before .before .before .before .args in
+    let a = start (c .before .before .before) .args in
     let f = fits (c .before .before .before) in
-    ended-number 12 (tasksOf (a .s)) (a .table .now) (omega arith)
+    answers-number 12 (a .s) (a .table .now) (omega arith)
     (delay-beyond (a .s) (length (a .table .now)) f (a .release) (omega (arith, c .if1 .taken, sizes-given _ f .hyperperiod-is)))
 
 first-period-requires : tie.Need-first-period-requires
@@ -80,86 +89,57 @@ rem-if2 c = c .first-period .ensures .1
 
 returns-3 : tie.Need-returns-3
 returns-3 c =
-    let a = c .before .before .before .before .before .before .before .before .before .args in
-    ended-number 12 (tasksOf (a .s)) (a .table .now) (omega arith)
-    (delay-between (a .s) (length (a .table .now)) (fits (c .before .before .before .before .before)) (a .release) (early (c .before .before)) (rw (← c .before .first-period .ensures .0) (c .if2 .taken)))
-
-responses-requires : tie.Need-responses-requires
-responses-requires c κs = search needs
-
-enum-known-filled : tie.Need-enum-known-filled
-enum-known-filled c = search needs
-
-enum-told-2 : tie.Need-enum-told-2
-enum-told-2 c = search needs
-
-responses-refusal-requires : tie.Need-responses-refusal-requires
-responses-refusal-requires c κs = search needs
+    let a = start (between c) .args in
+    answers-number 12 (a .s) (a .table .now) (omega arith)
+    (delay-between (a .s) (length (a .table .now)) (fits (between c)) (a .release) (early (c .before .before)) (rw (← c .before .first-period .ensures .0) (c .if2 .taken)))
 
 same-length : tie.Need-same-length
-same-length c = c .before .before .before .before .before .responses .kept .1 .0
+same-length c = refused (c .before) .responses .kept .1 .0
 
 returns-4 : tie.Need-returns-4
 returns-4 c =
-    let a = c .before .before .before .before .before .before .before .before .before .before .before .before .before .before .before .before .args in
-    let r = c .before .before .before .before .before .responses in
+    let a = start (sized (judged (refused (c .before)))) .args in
+    let r = refused (c .before) .responses in
     let no = c .before .enum-told2 .given .1 in
-    rw (asked (c .before .before .before .before .before .before .before))
-    (ended-no (tasksOf (a .s)) (a .table .now) _ (c .responses-refusal .result)
-    (sym (r .ensures .0) ∙ ap toldTotals no ∙ ap refusal (sym (c .responses-refusal .ensures ∙ ap responsesRefusal no)))
-    (r .ensures .1 ∙ table-leaves (responsesOf (a .s) (length (a .table .now))) (tasksOf (a .s)) (a .table .now)))
+    rw (asked (judged (refused (c .before))))
+    (answers-no (a .s) (a .table .now) _ (c .responses-refusal .result)
+    (responses-no (r .ensures .0) no (c .responses-refusal .ensures))
+    (r .ensures .1))
 
 div-delay-in : tie.Need-div-delay-in
-div-delay-in c = c .before .before .before .before .before .before .before .before .first-period .ensures .1
+div-delay-in c = judged (done (c .before)) .before .first-period .ensures .1
 
 delay-in-requires : tie.Need-delay-in-requires
 delay-in-requires c κs =
-    let a = c .before .before .before .before .before .before .before .before .before .before .before .before .before .before .before .before .before .args in
-    let f = filled (c .before .before) in
-    let taken = filled-taken (a .s) (length (a .table .now)) f in (
-      taken,
+    let a = start (sized (judged (done (c .before .before)))) .args in
+    let f = filled-ready (a .s) (a .table .now) (filled (c .before .before)) (done (c .before .before) .responses .ensures .1) in (
+      f .0,
       (
-        responses-given (a .s) (length (a .table .now)) f .hyperperiod-is,
+        f .1 .0,
         (
-          filled-holds (a .s) (a .table .now) f (c .before .before .before .before .before .before .responses .ensures .1),
-          rw (c .before .before .before .before .before .before .before .before .before .first-period .ensures .0) (job-early (taken .sound) (taken .accepted .proper) (a .release) (early (c .before .before .before .before .before .before .before .before .before .before))),
+          f .1 .1,
+          rw (judged (done (c .before .before)) .before .first-period .ensures .0) (job-early (f .0 .1 .accepted .proper) (firstOf (chainOf (a .s))) (chain-head (tasksOf (a .s)) (firstOf (chainOf (a .s))) (restOf (chainOf (a .s))) (chain-known (f .0 .0))) (a .release) (early (judged (done (c .before .before)) .before .before))),
         ),
       ),
     )
 
 same-length-2 : tie.Need-same-length-2
-same-length-2 c = c .before .before .before .before .before .before .before .responses .kept .1 .0
+same-length-2 c = done (c .before .before .before) .responses .kept .1 .0
 
 returns-5 : tie.Need-returns-5
 returns-5 c =
-    let a = c .before .before .before .before .before .before .before .before .before .before .before .before .before .before .before .before .before .before .args in
-    let r = c .before .before .before .before .before .before .before .responses in
-    let job : a .release / c .before .before .before .before .before .before .before .before .before .before .first-period .result * period (tasksOf (a .s)) (firstOf (chainOf (a .s))) ≡ a .release =
-    rw (c .before .before .before .before .before .before .before .before .before .before .first-period .ensures .0) (job-release (tasksOf (a .s)) (firstOf (chainOf (a .s))) (a .release) (whole (c .before .before .before .before .before .before .before .before .before))) in
-    rw (asked (c .before .before .before .before .before .before .before .before .before))
-    (ended-given (tasksOf (a .s)) (a .table .now) _ (filled (c .before .before .before)) (ap given (sym (c .delay-in .ensures ∙ ap (delayAt (tasksOf (a .s)) (chainOf (a .s))) job)))
-    (r .ensures .1 ∙ table-leaves (responsesOf (a .s) (length (a .table .now))) (tasksOf (a .s)) (a .table .now)))
+    let g = judged (done (c .before .before .before)) in
+    let a = start (sized g) .args in
+    let job : a .release / g .before .first-period .result * period (tasksOf (a .s)) (firstOf (chainOf (a .s))) ≡ a .release =
+    ap (λ x. a .release / x * period (tasksOf (a .s)) (firstOf (chainOf (a .s)))) (g .before .first-period .ensures .0)
+    ∙ job-release (tasksOf (a .s)) (firstOf (chainOf (a .s))) (a .release) (whole g) in
+    rw (asked g)
+    (answers-given (a .s) (a .table .now) _ (filled (c .before .before .before)) (ap given (sym (c .delay-in .ensures ∙ ap (delayAt (tasksOf (a .s)) (chainOf (a .s))) job)))
+    (done (c .before .before .before) .responses .ensures .1))
 
 pub delay-spec : {M : Type 1} → statement M
 delay-spec =
     tie.close
-    (tie.spec
-    sizes-requires
-    enum-known-z
-    enum-told
-    sizes-refusal-requires
-    returns
-    returns-2
-    first-period-requires
-    rem-if2
-    returns-3
-    responses-requires
-    enum-known-filled
-    enum-told-2
-    responses-refusal-requires
-    same-length
-    returns-4
-    div-delay-in
-    delay-in-requires
-    same-length-2
-    returns-5)
+    (tie.spec (λ c κs. search needs) (λ c. search needs) (λ c. search needs) (λ c κs. search needs) returns returns-2
+    first-period-requires rem-if2 returns-3 (λ c κs. search needs) (λ c. search needs) (λ c. search needs)
+    (λ c κs. search needs) same-length returns-4 div-delay-in delay-in-requires same-length-2 returns-5)

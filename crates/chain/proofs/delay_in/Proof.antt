@@ -3,52 +3,56 @@ use mathlib.Core.Path.{_≡_, sym, _∙_}
 use native.Mathlib.Omega.{arith}
 use lib.ListN.{length, length-map}
 use borrow.Author.Needs.{needs}
-use Rattle.chain.specs.Answer.{chainOf}
-use Rattle.chain.specs.SheetLaws.{chain-length}
-use Rattle.chain.specs.PlanLaws.{plan-path, plan-release, plan-early, plan-delay}
+use Rattle.sheet.specs.Tasks.{tasksOf, chainOf}
+use Rattle.sheet.specs.TaskLaws.{chain-length}
+use Rattle.chain.specs.Conditions.{TakenChain}
+use Rattle.chain.specs.CallLaws.{sheet-chain}
+use Rattle.chain.specs.ArrayLaws.{arrays-path, arrays-release, arrays-early, arrays-delay}
 use Rattle.chain.proofs.delay_in.Statement.{statement}
 use Rattle.chain.proofs.delay_in.Tie as tie
+
+-- The start, where the chain is lent, and where the arrays are filled.
+abbrev start : tie.After-struct-known → tie.Start
+start c = c .before .before .before .before .before .before .before .before
+
+abbrev lending : tie.After-counts2 → tie.After-struct-known
+lending c = c .before .before .before .before .before
+
+abbrev arrays : tie.After-counts2 → tie.After-gather-tasks
+arrays c = c .before .before .before .before .before .before .before
 
 -- The chain's places are sixteen, of which the first `length` are lent.
 whole : (c : tie.Start) → length (c .args .s .chain) ≡ 16
 whole c = sym (length-map (c .args .s .chain) _) ∙ c .good .0 .1 .1 .1 .0 .1 .0 .1
 
 lent : (c : tie.Start) → length (chainOf (c .args .s)) ≡ c .args .s .length
-lent c = chain-length (c .pre .0 .sound) (whole c)
+lent c = chain-length (c .pre .0 .0) (whole c)
 
-gather-requires : tie.Need-gather-requires
-gather-requires c κs = search needs
-
-cast-m : tie.Need-cast-m
-cast-m c = search needs
+taken : (c : tie.Start) → TakenChain (tasksOf (c .args .s)) (chainOf (c .args .s))
+taken c = sheet-chain (c .pre .0 .0) (c .pre .0 .1)
 
 array-share-prefix-chain : tie.Need-array-share-prefix-chain
 array-share-prefix-chain c =
-    let s = c .before .before .before .before .before .before .before .before in
-    omega (arith, whole s, s .pre .0 .sound .length-most, s .pre .0 .sound .count-most)
+    let s = start c in
+    omega (arith, whole s, s .pre .0 .0 .length-most, s .pre .0 .0 .count-most)
 
 slice-aggregate-walk : tie.Need-slice-aggregate-walk
-slice-aggregate-walk c = sym (lent (c .before .before .before .before .before .before .before .before .before))
+slice-aggregate-walk c = sym (lent (start (c .before)))
 
 walk-requires : tie.Need-walk-requires
 walk-requires c κs =
-    let s = c .before .before .before .before .before .before .before .before .before .before .before .before .before in
-    let gathered = c .before .before .before .before .before .before .before .gather .ensures in
-    (plan-path (s .pre .0) (s .pre .1 .1 .0) gathered (omega (arith, lent s, s .pre .0 .sound .length-least)), omega (arith, plan-release (s .pre .0) (s .pre .1 .1 .0) gathered (s .args .k), plan-early (s .pre .0) (s .pre .1 .1 .0) gathered (s .args .k) (s .pre .1 .1 .1), lent s, s .pre .0 .sound .length-most, s .pre .0 .sound .count-most))
+    let s = start (lending c) in
+    let gathered = arrays c .gather-tasks .ensures in
+    (arrays-path (taken s) (s .pre .1 .1 .0) gathered (omega (arith, lent s, s .pre .0 .0 .length-least)), omega (arith, arrays-release (taken s) (s .pre .1 .1 .0) gathered (s .args .k), arrays-early (taken s) (s .pre .1 .1 .0) gathered (s .args .k) (s .pre .1 .1 .1), lent s, s .pre .0 .0 .length-most, s .pre .0 .0 .count-most))
 
 returns : tie.Need-returns
 returns c =
-    let s = c .before .before .before .before .before .before .before .before .before .before .before .before .before .before in
-    let gathered = c .before .before .before .before .before .before .before .before .gather .ensures in
-    c .walk .ensures ∙ plan-delay (s .pre .0) (s .pre .1 .1 .0) gathered (s .args .k)
+    let s = start (lending (c .before)) in
+    let gathered = arrays (c .before) .gather-tasks .ensures in
+    c .walk .ensures ∙ arrays-delay (taken s) (s .pre .1 .1 .0) gathered (s .args .k)
 
 pub delay-in-spec : {M : Type 1} → statement M
 delay-in-spec =
     tie.close
-    (tie.spec
-    gather-requires
-    cast-m
-    array-share-prefix-chain
-    slice-aggregate-walk
-    walk-requires
+    (tie.spec (λ c κs. search needs) (λ c. search needs) array-share-prefix-chain slice-aggregate-walk walk-requires
     returns)

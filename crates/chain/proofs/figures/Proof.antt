@@ -5,17 +5,18 @@ use lib.ListN.{length}
 use mir.Syntax.{w32}
 use mir.ValLaws.{toZ-ofZ}
 use borrow.Author.Needs.{needs}
-use Rattle.theory.specs.Responses.{hyperperiod}
-use Rattle.sheet.specs.Answers.{given}
-use Rattle.sheet.specs.Told.{refusal}
-use Rattle.schedule.specs.Answer.{tasksOf, responsesOf, toldTotals}
-use Rattle.schedule.specs.Results.{responses-given, filled-holds}
-use Rattle.schedule.specs.Steps.{Holds}
+use Rattle.theory.specs.Model.Responses.{hyperperiod}
+use Rattle.answers.specs.Answers.{given, refusal}
+use Rattle.sheet.specs.Sound.{Sound}
+use Rattle.sheet.specs.Tasks.{tasksOf, chainOf}
+use Rattle.schedule.specs.Calls.{responsesOf, toldTotals}
+use Rattle.schedule.specs.CallLaws.{responses-no}
+use Rattle.schedule.specs.Taken.{Taken, Holds}
 use Rattle.chain.specs.declared.answer.Summary.{Summary}
-use Rattle.chain.specs.Answer.{chainOf, summaryOf, figuresOf}
-use Rattle.chain.specs.Steps.{Taken, responsesRefusal}
-use Rattle.chain.specs.Cases.{filled-taken, table-leaves, ended-no, ended-given}
-use Rattle.chain.specs.Answered.{worst-most}
+use Rattle.chain.specs.Calls.{summaryOf, figuresOf}
+use Rattle.chain.specs.Conditions.{TakenChain}
+use Rattle.chain.specs.CallLaws.{answers-no, answers-given, filled-chain, filled-ready}
+use Rattle.chain.specs.Largest.{worst-most}
 use Rattle.chain.proofs.figures.Statement.{statement}
 use Rattle.chain.proofs.figures.Tie as tie
 
@@ -28,28 +29,13 @@ module _ (c : tie.After-answer) where
   done = c .before .before .before .before .before
 
   filled : responsesOf (start .args .s) (length (start .args .table .now)) ≡ given (c .answer .given .0 .0)
-  filled = sym (done .task-responses .ensures .0) ∙ ap toldTotals (c .answer .given .1)
+  filled = sym (done .task-responses .ensures .0 .0) ∙ ap toldTotals (c .answer .given .1)
 
-  taken : Taken (start .args .s)
-  taken = filled-taken (start .args .s) (length (start .args .table .now)) filled
+  taken : TakenChain (tasksOf (start .args .s)) (chainOf (start .args .s))
+  taken = filled-chain (start .args .s) (length (start .args .table .now)) filled
 
-  ready : Taken (start .args .s) × ((c .answer .given .0 .0 .hyperperiod ≡ hyperperiod (tasksOf (start .args .s))) × Holds (tasksOf (start .args .s)) (done .task-responses .last .1 .0))
-  ready = (taken, (responses-given (start .args .s) (length (start .args .table .now)) filled .hyperperiod-is, filled-holds (start .args .s) (start .args .table .now) filled (done .task-responses .ensures .1 .0)))
-
-task-responses-requires : tie.Need-task-responses-requires
-task-responses-requires c κs = search needs
-
-enum-known-answer : tie.Need-enum-known-answer
-enum-known-answer c = search needs
-
-enum-told : tie.Need-enum-told
-enum-told c = search needs
-
-responses-refusal-requires : tie.Need-responses-refusal-requires
-responses-refusal-requires c κs = search needs
-
-same-length : tie.Need-same-length
-same-length c = search needs
+  ready : (Sound (start .args .s) × Taken (tasksOf (start .args .s))) × ((c .answer .given .0 .0 .hyperperiod ≡ hyperperiod (tasksOf (start .args .s))) × Holds (tasksOf (start .args .s)) (done .task-responses .last .1 .0))
+  ready = filled-ready (start .args .s) (start .args .table .now) filled (done .task-responses .ensures .0 .1)
 
 returns : tie.Need-returns
 unfolding figuresOf
@@ -57,10 +43,10 @@ returns c =
     let a = c .before .before .before .before .before .before .before .before .before .args in
     let r = c .before .before .before .before .before .before .task-responses in
     let no = c .before .enum-told .given .1 in
-    let ended = ended-no (tasksOf (a .s)) (a .table .now) _ (c .responses-refusal .result)
-    (sym (r .ensures .0) ∙ ap toldTotals no ∙ ap refusal (sym (c .responses-refusal .ensures ∙ ap responsesRefusal no)))
-    (r .ensures .1 .0 ∙ table-leaves (responsesOf (a .s) (length (a .table .now))) (tasksOf (a .s)) (a .table .now)) in
-    (ended .0, (ended .1, r .ensures .1 .1))
+    let ended = answers-no (a .s) (a .table .now) _ (c .responses-refusal .result)
+    (responses-no (r .ensures .0 .0) no (c .responses-refusal .ensures))
+    (r .ensures .0 .1) in
+    (ended, r .ensures .1)
 
 worst-in-requires : tie.Need-worst-in-requires
 worst-in-requires c κs = ready (c .before .before)
@@ -71,9 +57,6 @@ bound-in-requires c κs = ready (c .before .before .before .before)
 less-of-requires : tie.Need-less-of-requires
 less-of-requires c κs = (omega arith, omega (arith, ap (λ f. f .ticks) (c .before .before .worst-in .ensures), worst-most (taken (c .before .before .before .before .before))))
 
-same-length-2 : tie.Need-same-length-2
-same-length-2 c = search needs
-
 returns-2 : tie.Need-returns-2
 unfolding figuresOf
 returns-2 c =
@@ -83,22 +66,12 @@ returns-2 c =
     let read = toZ-ofZ w32 (c .less-of .result) (record { sfits = c .less-of .ok }) in
     let summary : Summary = record { totals = f .answer .given .0 .0; worst = c .before .before .before .worst-in .result; bound = c .before .bound-in .result; margin = c .less-of .result } in
     let same : summaryOf (tasksOf (a .s)) (chainOf (a .s)) (f .answer .given .0 .0) ≡ summary = rw (c .less-of .ensures, c .before .bound-in .ensures, c .before .before .before .worst-in .ensures) refl in
-    let ended = ended-given (tasksOf (a .s)) (a .table .now) _ (filled f) (ap given same)
-    (r .ensures .1 .0 ∙ table-leaves (responsesOf (a .s) (length (a .table .now))) (tasksOf (a .s)) (a .table .now)) in
-    rw read (ended .0, (ended .1, r .ensures .1 .1))
+    let ended = answers-given (a .s) (a .table .now) _ (filled f) (ap given same)
+    (r .ensures .0 .1) in
+    rw read (ended, r .ensures .1)
 
 pub figures-spec : {M : Type 1} → statement M
 figures-spec =
     tie.close
-    (tie.spec
-    task-responses-requires
-    enum-known-answer
-    enum-told
-    responses-refusal-requires
-    same-length
-    returns
-    worst-in-requires
-    bound-in-requires
-    less-of-requires
-    same-length-2
-    returns-2)
+    (tie.spec (λ c κs. search needs) (λ c. search needs) (λ c. search needs) (λ c κs. search needs) (λ c. search needs)
+    returns worst-in-requires bound-in-requires less-of-requires (λ c. search needs) returns-2)

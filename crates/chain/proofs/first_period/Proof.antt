@@ -4,18 +4,15 @@ use Prim.Native.Nat.{_<_}
 use native.Mathlib.Omega.{arith}
 use lib.ListN.{getD}
 use lib.Seq.{getD-take}
-use Rattle.theory.specs.Model.{period}
-use Rattle.schedule.specs.Answer.{tasksOf}
-use Rattle.chain.specs.SheetLaws.{period-at}
+use Rattle.theory.specs.Model.Schedule.{period}
 use borrow.Author.Needs.{needs}
+use Rattle.sheet.specs.Tasks.{tasksOf}
+use Rattle.sheet.specs.TaskLaws.{period-at}
 use Rattle.chain.proofs.first_period.Statement.{statement}
 use Rattle.chain.proofs.first_period.Tie as tie
 
 known : (c : tie.Start) → getD (c .args .t1 .chain) 0 0 < c .args .t1 .count
 known c = c .pre .entry-below 0 (c .pre .length-least)
-
-array-read-p : tie.Need-array-read-p
-array-read-p c = search needs
 
 cast-p : tie.Need-cast-p
 cast-p c = omega (arith, known (c .before), c .before .pre .count-most)
@@ -34,4 +31,4 @@ returns c =
     )
 
 pub first-period-spec : {M : Type 1} → statement M
-first-period-spec = tie.close (tie.spec array-read-p cast-p mul-result element-copy-out-result returns)
+first-period-spec = tie.close (tie.spec (λ c. search needs) cast-p mul-result element-copy-out-result returns)

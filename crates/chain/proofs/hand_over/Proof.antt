@@ -10,9 +10,9 @@ use borrow.Author.Tests.{lt-ltb, le-ltb}
 use borrow.Author.Needs.{needs}
 use Rattle.arith.specs.Whole.{up}
 use Rattle.arith.specs.WholeLaws.{up-above, up-near}
-use Rattle.theory.specs.Model.{release}
-use Rattle.theory.specs.Chain.{nextRelease}
-use Rattle.chain.specs.Steps.{mostPeriod, mostWait, mostRelease, tasksIn, rowsIn}
+use Rattle.theory.specs.Model.Schedule.{release}
+use Rattle.theory.specs.Model.Chain.{nextRelease}
+use Rattle.chain.specs.Conditions.{mostPeriod, mostWait, mostRelease, tasksIn, rowsIn}
 use Rattle.chain.specs.ReadLaws.{release-in, row-most, next-in}
 use Rattle.chain.proofs.hand_over.Statement.{statement}
 use Rattle.chain.proofs.hand_over.Tie as tie
@@ -51,41 +51,16 @@ module _ (c : tie.Joined1) where
   next-near : (start .args .k * getD (start .args .periods .now) (start .args .p) 0 ≤ up T (c .if1 .ready)) × (up T (c .if1 .ready) ≤ mostRelease + mostWait)
   next-near = omega (arith, ready-near, up-above T (c .if1 .ready) (start .pre .1 .0 .period-positive), up-near T (c .if1 .ready) (start .pre .1 .0 .period-positive), start .pre .1 .0 .period-most)
 
-mul-release : tie.Need-mul-release
-mul-release c = search needs
-
-element-copy-out-release : tie.Need-element-copy-out-release
-element-copy-out-release c = search needs
-
 mul-release-2 : tie.Need-mul-release-2
 mul-release-2 c = omega (arith, release-most (c .before .before))
 
-element-copy-out-rank : tie.Need-element-copy-out-rank
-element-copy-out-rank c = search needs
-
-element-copy-out-if1 : tie.Need-element-copy-out-if1
-element-copy-out-if1 c = search needs
-
-response-of-requires : tie.Need-response-of-requires
-response-of-requires c κs = search needs
-
 add-ready : tie.Need-add-ready
-add-ready c = omega (arith, release-most (c .before .before .before .before .before .before), c .response-of .ensures, row-most (c .before .before .before .before .before .before .pre .0 .row) (c .before .before .before .before .before .before .args .k))
-
-mul-period : tie.Need-mul-period
-mul-period c = search needs
-
-element-copy-out-period : tie.Need-element-copy-out-period
-element-copy-out-period c = search needs
-
-sub-job : tie.Need-sub-job
-sub-job c = search needs
+add-ready c =
+    let s = c .before .before .before .before .before .before in
+    omega (arith, release-most s, c .response-of .ensures, row-most (s .pre .0 .row) (s .args .k))
 
 add-job : tie.Need-add-job
-add-job c = omega (arith, ready-near (c .before .before), c .before .before .before .before .before .before .before .pre .1 .0 .period-most)
-
-div-job : tie.Need-div-job
-div-job c = search needs
+add-job c = omega (arith, ready-near (c .before .before), start (c .before .before) .pre .1 .0 .period-most)
 
 mul-wait : tie.Need-mul-wait
 unfolding up
@@ -108,19 +83,6 @@ returns c =
 pub hand-over-spec : {M : Type 1} → statement M
 hand-over-spec =
     tie.close
-    (tie.spec
-    mul-release
-    element-copy-out-release
-    mul-release-2
-    element-copy-out-rank
-    element-copy-out-if1
-    response-of-requires
-    add-ready
-    mul-period
-    element-copy-out-period
-    sub-job
-    add-job
-    div-job
-    mul-wait
-    sub-wait
-    returns)
+    (tie.spec (λ c. search needs) (λ c. search needs) mul-release-2 (λ c. search needs) (λ c. search needs)
+    (λ c κs. search needs) add-ready (λ c. search needs) (λ c. search needs) (λ c. search needs) add-job
+    (λ c. search needs) mul-wait sub-wait returns)

@@ -7,19 +7,13 @@ use mir.Syntax.{w32}
 use mir.Val.{SFits, toZ}
 use mir.ValLaws.{toZ-pos, toZ-ofZ}
 use borrow.Author.Needs.{needs}
-use Rattle.chain.specs.Answer.{less}
+use Rattle.chain.specs.Calls.{less}
 use Rattle.chain.specs.MarginLaws.{less-mag}
 use Rattle.chain.proofs.less_of.Statement.{statement}
 use Rattle.chain.proofs.less_of.Tie as tie
 
 read-back : (limit figure : ℕ) → limit < 2 ^ 31 → figure < 2 ^ 31 → toZ w32 limit -ℤ toZ w32 figure ≡ less limit figure
 read-back limit figure l f = ap₂ _-ℤ_ (toZ-pos w32 limit l) (toZ-pos w32 figure f)
-
-cast-result : tie.Need-cast-result
-cast-result c = search needs
-
-cast-result-2 : tie.Need-cast-result-2
-cast-result-2 c = search needs
 
 sub-result : tie.Need-sub-result
 sub-result c =
@@ -32,4 +26,4 @@ returns : tie.Need-returns
 returns c = toZ-ofZ w32 _ (sub-result c) ∙ read-back (c .args .limit) (c .args .figure) (omega arith) (omega arith)
 
 pub less-of-spec : {M : Type 1} → statement M
-less-of-spec = tie.close (tie.spec cast-result cast-result-2 sub-result returns)
+less-of-spec = tie.close (tie.spec (λ c. search needs) (λ c. search needs) sub-result returns)

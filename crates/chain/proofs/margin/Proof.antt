@@ -5,111 +5,92 @@ use lib.ListN.{length}
 use mir.Syntax.{w32}
 use mir.ValLaws.{toZ-ofZ}
 use borrow.Author.Needs.{needs}
-use Rattle.sheet.specs.Answers.{given, after}
-use Rattle.sheet.specs.Told.{refusal}
-use Rattle.schedule.specs.Answer.{tasksOf, sizesOf, toldSize}
-use Rattle.schedule.specs.Steps.{refusalOf}
-use Rattle.chain.specs.Answer.{less, worstOf, marginOf, toldWorst}
-use Rattle.chain.specs.Steps.{worstRefusal}
-use Rattle.chain.specs.Cases.{ended-no, ended-given, ended-number, sizes-untouched, margin-over, margin-asked}
-use Rattle.chain.specs.Answered.{worst-given, worst-most}
+use Rattle.answers.specs.Answers.{given, after, refusal}
+use Rattle.schedule.specs.Calls.{sizesOf, toldSize}
+use Rattle.schedule.specs.CallLaws.{sizes-no}
+use Rattle.chain.specs.Calls.{less, worstOf, marginOf, toldWorst}
+use Rattle.chain.specs.Calls.{worstRefusal}
+use Rattle.chain.specs.CallLaws.{answers-no, answers-given, answers-number, sizes-untouched, margin-over, margin-asked, worst-given}
+use Rattle.chain.specs.Largest.{worst-most}
 use Rattle.chain.proofs.margin.Statement.{statement}
 use Rattle.chain.proofs.margin.Tie as tie
 
+-- The start, for a limit that is over and for one that is allowed; and the table as `worst` leaves it, before a refusal and where the figure is known.
+abbrev over : tie.After-enum-told → tie.Start
+over c = c .before .before .before .before .before
+
+abbrev over-refused : tie.After-enum-told2 → tie.Start
+over-refused c = c .before .before .before .before .before
+
+abbrev start : tie.Else1 → tie.Start
+start c = c .before .before
+
+abbrev allowed : tie.After-worst → tie.Else1
+allowed c = c .before .before
+
+abbrev refused : tie.After-enum-told3 → tie.After-worst
+refused c = c .before .before .before .before
+
+abbrev done : tie.After-w → tie.After-worst
+done c = c .before .before .before .before
+
 -- H and J are within their limits.
-fits : (c : tie.After-enum-told) → sizesOf (c .before .before .before .before .before .args .s) ≡ given (c .enum-told .given .0 .0)
+fits : (c : tie.After-enum-told) → sizesOf (over c .args .s) ≡ given (c .enum-told .given .0 .0)
 fits c = sym (c .before .before .sizes .ensures) ∙ ap toldSize (c .enum-told .given .1)
 
-asked : (c : tie.Else1) → let a = c .before .before .args in
+asked : (c : tie.Else1) → let a = start c .args in
     marginOf (a .s) (a .limit) (length (a .table .now)) ≡ after (worstOf (a .s) (length (a .table .now))) (λ figure. given (less (a .limit) (figure .ticks)))
-asked c = let a = c .before .before .args in margin-asked (a .s) (length (a .table .now)) (a .limit) (c .if1 .left)
+asked c = let a = start c .args in margin-asked (a .s) (length (a .table .now)) (a .limit) (c .if1 .left)
 
 -- The worst figure is known.
-known : (c : tie.After-w) → let a = c .before .before .before .before .before .before .before .before .args in worstOf (a .s) (length (a .table .now)) ≡ given (c .w .given .0 .0)
-known c = sym (c .before .before .before .before .worst .ensures .0) ∙ ap toldWorst (c .w .given .1)
-
-sizes-requires : tie.Need-sizes-requires
-sizes-requires c κs = search needs
-
-enum-told : tie.Need-enum-told
-enum-told c = search needs
-
-enum-told-2 : tie.Need-enum-told-2
-enum-told-2 c = search needs
-
-sizes-refusal-requires : tie.Need-sizes-refusal-requires
-sizes-refusal-requires c κs = search needs
+known : (c : tie.After-w) → let a = start (allowed (done c)) .args in worstOf (a .s) (length (a .table .now)) ≡ given (c .w .given .0 .0)
+known c = sym (done c .worst .ensures .0) ∙ ap toldWorst (c .w .given .1)
 
 returns : tie.Need-returns
 unfolding marginOf
 returns c =
-    let a = c .before .before .before .before .before .before .args in
+    let a = over-refused (c .before) .args in
     let no = c .before .enum-told2 .given .1 in
     let e : sizesOf (a .s) ≡ refusal (c .sizes-refusal .result) =
-    sym (c .before .before .before .sizes .ensures) ∙ ap toldSize no ∙ ap refusal (sym (c .sizes-refusal .ensures ∙ ap refusalOf no)) in
-    ended-no (tasksOf (a .s)) (a .table .now) _ (c .sizes-refusal .result) e (sizes-untouched (a .s) (a .table .now) (c .sizes-refusal .result) e)
+    sizes-no (c .before .before .before .sizes .ensures) no (c .sizes-refusal .ensures) in
+    answers-no (a .s) (a .table .now) _ (c .sizes-refusal .result) e (sizes-untouched (a .s) (a .table .now) (c .sizes-refusal .result) e)
 
 returns-2 : tie.Need-returns-2
 returns-2 c =
-    let a = c .before .before .before .before .before .args in
-    ended-number 13 (tasksOf (a .s)) (a .table .now) (omega arith) (margin-over (a .s) (length (a .table .now)) (fits c) (a .limit) (c .before .before .before .if1 .taken))
-
-worst-requires : tie.Need-worst-requires
-worst-requires c κs = search needs
-
-enum-known-w : tie.Need-enum-known-w
-enum-known-w c = search needs
-
-enum-told-3 : tie.Need-enum-told-3
-enum-told-3 c = search needs
-
-worst-refusal-requires : tie.Need-worst-refusal-requires
-worst-refusal-requires c κs = search needs
+    let a = over c .args in
+    answers-number 13 (a .s) (a .table .now) (omega arith) (margin-over (a .s) (length (a .table .now)) (fits c) (a .limit) (c .before .before .before .if1 .taken))
 
 same-length : tie.Need-same-length
-same-length c = c .before .before .before .before .before .worst .kept .1 .0
+same-length c = refused (c .before) .worst .kept .1 .0
 
 returns-3 : tie.Need-returns-3
 returns-3 c =
-    let a = c .before .before .before .before .before .before .before .before .before .args in
-    let w = c .before .before .before .before .before .worst in
+    let a = start (allowed (refused (c .before))) .args in
+    let w = refused (c .before) .worst in
     let no = c .before .enum-told3 .given .1 in
-    rw (asked (c .before .before .before .before .before .before .before))
-    (ended-no (tasksOf (a .s)) (a .table .now) _ (c .worst-refusal .result)
+    rw (asked (allowed (refused (c .before))))
+    (answers-no (a .s) (a .table .now) _ (c .worst-refusal .result)
     (sym (w .ensures .0) ∙ ap toldWorst no ∙ ap refusal (sym (c .worst-refusal .ensures ∙ ap worstRefusal no))) (w .ensures .1))
 
 less-of-requires : tie.Need-less-of-requires
 less-of-requires c κs =
-    let a = c .before .before .before .before .before .before .before .before .before .args in
+    let a = start (allowed (done (c .before))) .args in
     let g = worst-given (a .s) (length (a .table .now)) (known (c .before)) in
-    (c .before .before .before .before .before .before .before .if1 .left, omega (arith, ap (λ f. f .ticks) (g .1), worst-most (g .0)))
+    (allowed (done (c .before)) .if1 .left, omega (arith, ap (λ f. f .ticks) (g .1), worst-most (g .0)))
 
 same-length-2 : tie.Need-same-length-2
-same-length-2 c = c .before .before .before .before .before .before .worst .kept .1 .0
+same-length-2 c = done (c .before .before) .worst .kept .1 .0
 
 returns-4 : tie.Need-returns-4
 returns-4 c =
-    let a = c .before .before .before .before .before .before .before .before .before .before .args in
+    let a = start (allowed (done (c .before .before))) .args in
     let read = toZ-ofZ w32 (c .less-of .result) (record { sfits = c .less-of .ok }) in
-    rw (asked (c .before .before .before .before .before .before .before .before), read)
-    (ended-given (tasksOf (a .s)) (a .table .now) _ (known (c .before .before)) (ap given (sym (c .less-of .ensures))) (c .before .before .before .before .before .before .worst .ensures .1))
+    rw (asked (allowed (done (c .before .before))), read)
+    (answers-given (a .s) (a .table .now) _ (known (c .before .before)) (ap given (sym (c .less-of .ensures))) (done (c .before .before) .worst .ensures .1))
 
 pub margin-spec : {M : Type 1} → statement M
 margin-spec =
     tie.close
-    (tie.spec
-    sizes-requires
-    enum-told
-    enum-told-2
-    sizes-refusal-requires
-    returns
-    returns-2
-    worst-requires
-    enum-known-w
-    enum-told-3
-    worst-refusal-requires
-    same-length
-    returns-3
-    less-of-requires
-    same-length-2
-    returns-4)
+    (tie.spec (λ c κs. search needs) (λ c. search needs) (λ c. search needs) (λ c κs. search needs) returns returns-2
+    (λ c κs. search needs) (λ c. search needs) (λ c. search needs) (λ c κs. search needs) same-length returns-3
+    less-of-requires same-length-2 returns-4)

@@ -7,7 +7,7 @@ use lib.ListN.{getD}
 use borrow.Author.Tests.{lt-ltb, le-ltb}
 use Rattle.arith.specs.Whole.{gcd, up}
 use Rattle.arith.specs.WholeLaws.{gcd-divides-right, gcd-pos, up-near}
-use Rattle.chain.specs.Steps.{mostWait, greatestIn}
+use Rattle.chain.specs.Conditions.{mostWait, greatestIn}
 use Rattle.chain.specs.ReadLaws.{greatest-most, pair-in}
 use borrow.Author.Needs.{needs}
 use Rattle.chain.proofs.pair_bound.Statement.{statement}
@@ -33,58 +33,32 @@ module _ (s : tie.Start) where
     s .pre .1 .period-most,
   )
 
-up-is : (c : tie.After-up) → let s = c .before .before .before .before .before .before .before .before .before .before in c .up .result ≡ up (g s) (R s)
-up-is c = c .up .ensures ∙ ap₂ up (c .before .before .before .before .before .before .gcd .ensures) (c .before .task-response .ensures)
+-- The start, and the greatest common divisor, where the least multiple of it is found.
+abbrev start : tie.After-up → tie.Start
+start c = c .before .before .before .before .before .before .before .before .before .before
 
-mul-gcd : tie.Need-mul-gcd
-mul-gcd c = search needs
+abbrev divisor : tie.After-up → tie.After-gcd
+divisor c = c .before .before .before .before .before .before
 
-element-copy-out-gcd : tie.Need-element-copy-out-gcd
-element-copy-out-gcd c = search needs
-
-mul-gcd-2 : tie.Need-mul-gcd-2
-mul-gcd-2 c = search needs
-
-element-copy-out-gcd-2 : tie.Need-element-copy-out-gcd-2
-element-copy-out-gcd-2 c = search needs
-
-gcd-requires : tie.Need-gcd-requires
-gcd-requires c κs = search needs
-
-mul-ticks : tie.Need-mul-ticks
-mul-ticks c = search needs
-
-element-copy-out-ticks : tie.Need-element-copy-out-ticks
-element-copy-out-ticks c = search needs
+up-is : (c : tie.After-up) → let s = start c in c .up .result ≡ up (g s) (R s)
+up-is c = c .up .ensures ∙ ap₂ up (divisor c .gcd .ensures) (c .before .task-response .ensures)
 
 sub-ticks : tie.Need-sub-ticks
 sub-ticks c = omega (arith, c .before .gcd .ensures, g-most (c .before .before .before .before .before))
 
-element-copy-out-if1 : tie.Need-element-copy-out-if1
-element-copy-out-if1 c = search needs
-
-element-copy-out-if1-2 : tie.Need-element-copy-out-if1-2
-element-copy-out-if1-2 c = search needs
-
-task-response-requires : tie.Need-task-response-requires
-task-response-requires c κs = search needs
-
-up-requires : tie.Need-up-requires
-up-requires c κs = search needs
-
 cast-ticks : tie.Need-cast-ticks
-cast-ticks c = omega (arith, up-is c, up-most (c .before .before .before .before .before .before .before .before .before .before))
+cast-ticks c = omega (arith, up-is c, up-most (start c))
 
 add-ticks : tie.Need-add-ticks
 add-ticks c =
-    let s = c .before .before .before .before .before .before .before .before .before .before in
+    let s = start c in
     omega (arith, up-is c, up-most s, s .pre .1 .period-most)
 
 returns : tie.Need-returns
 returns c =
-    let s = c .before .before .before .before .before .before .before .before .before .before in
+    let s = start c in
     rw (pair-in (s .args .ranks .now) (s .pre .0) (s .pre .1), lt-ltb _ _ (c .before .before .if1 .taken))
-    (ap₂ (λ x y. (getD (s .args .periods .now) (s .args .c) 0 - x) + y) (c .before .before .before .before .before .before .gcd .ensures) (up-is c))
+    (ap₂ (λ x y. (getD (s .args .periods .now) (s .args .c) 0 - x) + y) (divisor c .gcd .ensures) (up-is c))
 
 returns-2 : tie.Need-returns-2
 returns-2 c =
@@ -95,20 +69,6 @@ returns-2 c =
 pub pair-bound-spec : {M : Type 1} → statement M
 pair-bound-spec =
     tie.close
-    (tie.spec
-    mul-gcd
-    element-copy-out-gcd
-    mul-gcd-2
-    element-copy-out-gcd-2
-    gcd-requires
-    mul-ticks
-    element-copy-out-ticks
-    sub-ticks
-    element-copy-out-if1
-    element-copy-out-if1-2
-    task-response-requires
-    up-requires
-    cast-ticks
-    add-ticks
-    returns
-    returns-2)
+    (tie.spec (λ c. search needs) (λ c. search needs) (λ c. search needs) (λ c. search needs) (λ c κs. search needs)
+    (λ c. search needs) (λ c. search needs) sub-ticks (λ c. search needs) (λ c. search needs) (λ c κs. search needs)
+    (λ c κs. search needs) cast-ticks add-ticks returns returns-2)

@@ -16,21 +16,6 @@ job-is c = ⊎-elim (λ w. w .1) (λ w. w .1 ∙ sym (mod-eq-of-lt (omega (arith
 place : (c : tie.After-row-known) → let a = c .before .before .before .before .args in c .before .before .if1 .job < getD (a .counts .now) (a .i) 0
 place c = let s = c .before .before .before .before in omega (arith, job-is (c .before .before), row-place (s .pre) (s .args .k))
 
-mul-count : tie.Need-mul-count
-mul-count c = search needs
-
-element-copy-out-count : tie.Need-element-copy-out-count
-element-copy-out-count c = search needs
-
-rem-job : tie.Need-rem-job
-rem-job c = search needs
-
-mul-at : tie.Need-mul-at
-mul-at c = search needs
-
-element-copy-out-at : tie.Need-element-copy-out-at
-element-copy-out-at c = search needs
-
 add-at : tie.Need-add-at
 add-at c = omega (arith, place c, c .before .before .before .before .pre)
 
@@ -51,14 +36,5 @@ returns c =
 pub response-of-spec : {M : Type 1} → statement M
 response-of-spec =
     tie.close
-    (tie.spec
-    mul-count
-    element-copy-out-count
-    rem-job
-    mul-at
-    element-copy-out-at
-    add-at
-    cast-result
-    mul-result
-    shared-slice-read-result
-    returns)
+    (tie.spec (λ c. search needs) (λ c. search needs) (λ c. search needs) (λ c. search needs) (λ c. search needs) add-at
+    cast-result mul-result shared-slice-read-result returns)

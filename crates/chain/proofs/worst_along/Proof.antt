@@ -7,10 +7,10 @@ use native.Mathlib.Nat.{le-refl, le-trans, mul-le-mul, mul-le-mul-right}
 use native.Mathlib.Omega.{arith}
 use lib.ListN.{length, getD, take, drop}
 use borrow.Author.Needs.{needs}
-use Rattle.theory.specs.Model.{release}
-use Rattle.schedule.specs.Answer.{mostTicks}
-use Rattle.chain.specs.Answer.{firstOf}
-use Rattle.chain.specs.Steps.{mostWait, tasksIn, delayIn, ahead, Entry, Path}
+use Rattle.theory.specs.Model.Schedule.{release}
+use Rattle.sheet.specs.Tasks.{firstOf}
+use Rattle.schedule.specs.Calls.{mostTicks}
+use Rattle.chain.specs.Conditions.{mostWait, tasksIn, delayIn, ahead, TaskIn, ChainIn}
 use Rattle.chain.specs.ReadLaws.{release-in}
 use Rattle.chain.specs.WalkLaws.{part-from, ahead-path, ahead-few, path-delay}
 use Rattle.chain.specs.GreatestLaws.{GreatestTo, greatest-first}
@@ -31,7 +31,7 @@ module _ (s : tie.Start Inv-loop μ-loop) where
   abbrev first : ℕ
   first = firstOf (s .args .chain .now)
 
-  entry : Entry (s .args .periods .now) (s .args .starts .now) (s .args .counts .now) (s .args .table .now) first
+  entry : TaskIn (s .args .periods .now) (s .args .starts .now) (s .args .counts .now) (s .args .table .now) first
   entry = s .pre .0 .entry 0 (s .pre .0 .some)
 
   release-most : (k : ℕ) → k ≤ getD (s .args .counts .now) first 0 → k * getD (s .args .periods .now) first 0 ≤ mostTicks
@@ -57,38 +57,35 @@ module _ (c : tie.After-struct-known Inv-loop μ-loop) where
   left : take (length chain - from) (drop from chain) ≡ ahead chain
   left = part-from from chain ∙ ap (λ n. drop n chain) (c .before .before .before .before .onward .ensures)
 
-  whole : (rest : ℕ) → rest ≡ delays (take (length chain - from) (drop from chain)) (c .before .opening .result .job) → c .before .opening .result .wait + rest ≡ delays chain k
-  whole rest e = ap (λ x. c .before .opening .result .wait + x) (e ∙ ap (λ part. delays part (c .before .opening .result .job)) left) ∙ sym (c .before .opening .ensures .delay-is)
+  whole : (rest : ℕ) → rest ≡ delays (take (length chain - from) (drop from chain)) (c .before .first-hand-over .result .job) → c .before .first-hand-over .result .wait + rest ≡ delays chain k
+  whole rest e = ap (λ x. c .before .first-hand-over .result .wait + x) (e ∙ ap (λ part. delays part (c .before .first-hand-over .result .job)) left) ∙ sym (c .before .first-hand-over .ensures .delay-is)
 
   from-within : from ≤ length chain
   from-within = omega (arith, c .before .before .before .before .onward .ensures, ahead-few (start .args .ranks .now) (start .pre .0) (start .pre .1 .0))
 
-  onward-path : Path (start .args .periods .now) (start .args .starts .now) (start .args .counts .now) (start .args .table .now) (ahead chain)
+  onward-path : ChainIn (start .args .periods .now) (start .args .starts .now) (start .args .counts .now) (start .args .table .now) (ahead chain)
   onward-path = ahead-path (start .args .ranks .now) (start .pre .0)
 
   -- The next release is not far,
-  near : release (tasksIn (start .args .periods .now) (start .args .ranks .now)) (firstOf (ahead chain)) (c .before .opening .result .job) ≤ mostTicks + mostWait
+  near : release (tasksIn (start .args .periods .now) (start .args .ranks .now)) (firstOf (ahead chain)) (c .before .first-hand-over .result .job) ≤ mostTicks + mostWait
   near = omega (
     arith,
-    c .before .opening .ensures .meets,
-    c .before .opening .ensures .near,
+    c .before .first-hand-over .ensures .meets,
+    c .before .first-hand-over .ensures .near,
     release-in (start .args .periods .now) (start .args .ranks .now) (first start) (entry start .row .known) k,
     release-most start k (c .before .before .before .loop .inv .0),
   )
 
   -- and so is its job.
-  job-most : c .before .opening .result .job ≤ mostTicks + mostWait
+  job-most : c .before .first-hand-over .result .job ≤ mostTicks + mostWait
   job-most =
       let next = onward-path .entry 0 (onward-path .some) in
       omega (
         arith,
         near,
-        release-in (start .args .periods .now) (start .args .ranks .now) (firstOf (ahead chain)) (next .row .known) (c .before .opening .result .job),
-        mul-le-mul (le-refl (c .before .opening .result .job)) (next .period-positive),
+        release-in (start .args .periods .now) (start .args .ranks .now) (firstOf (ahead chain)) (next .row .known) (c .before .first-hand-over .result .job),
+        mul-le-mul (le-refl (c .before .first-hand-over .result .job)) (next .period-positive),
       )
-
-shared-slice-read-p : tie.Need-shared-slice-read-p Inv-loop μ-loop
-shared-slice-read-p c = search needs
 
 cast-p : tie.Need-cast-p Inv-loop μ-loop
 cast-p c = omega (arith, entry (c .before .before .before) .row .known)
@@ -99,14 +96,11 @@ mul-n c = omega (arith, entry (c .before .before .before) .row .known)
 element-copy-out-n : tie.Need-element-copy-out-n Inv-loop μ-loop
 element-copy-out-n c = entry (c .before .before .before) .row .known
 
-onward-requires : tie.Need-onward-requires Inv-loop μ-loop
-onward-requires c κs = search needs
-
 loop-holds : tie.Need-loop-holds Inv-loop μ-loop
 loop-holds c = (omega arith, followed-none _ _ _ _ _ _ _)
 
-opening-requires : tie.Need-opening-requires Inv-loop μ-loop
-opening-requires c κs =
+first-hand-over-requires : tie.Need-first-hand-over-requires Inv-loop μ-loop
+first-hand-over-requires c κs =
     let s = c .before .before .before .before .before .before .before in
     let k = c .before .loop .k in
     (s .pre .0, omega (arith, release-in (s .args .periods .now) (s .args .ranks .now) (first s) (entry s .row .known) k, release-most s k (c .before .loop .inv .0)))
@@ -125,9 +119,6 @@ sub-walk c =
 part-walk-start : tie.Need-part-walk-start Inv-loop μ-loop
 part-walk-start c = from-within (c .before .before)
 
-part-walk-end : tie.Need-part-walk-end Inv-loop μ-loop
-part-walk-end c = search needs
-
 walk-requires : tie.Need-walk-requires Inv-loop μ-loop
 walk-requires c κs =
     let b = c .before .before .before in
@@ -141,14 +132,11 @@ add-delay c =
 add-k : tie.Need-add-k Inv-loop μ-loop
 add-k c = let s = start (c .before) in omega (arith, c .before .before .before .before .loop .inv .0, entry s .row .few, c .before .before .before .loop-test .taken)
 
-loop-less : tie.Need-loop-less Inv-loop μ-loop
-loop-less c = search needs
-
 loop-again : tie.Need-loop-again Inv-loop μ-loop
 loop-again c =
     let b = c .before in
     let l = b .before .before .before .loop in
-    let o = b .before .opening .ensures in (
+    let o = b .before .first-hand-over .ensures in (
       omega (arith, b .before .before .loop-test .taken),
       ⊎-elim
           (λ w. rw (w .6 ∙ whole b (w .3 .result) (w .3 .ensures), w .7, w .8) (followed-longer _ _ _ _ _ _ _ (l .inv .1) o (omega (arith, w .5 .taken, whole b (w .3 .result) (w .3 .ensures)))))
@@ -188,27 +176,6 @@ returns c =
 pub worst-along-spec : {M : Type 1} → statement M
 worst-along-spec =
     tie.close
-    (tie.spec
-    Inv-loop
-    μ-loop
-    shared-slice-read-p
-    cast-p
-    mul-n
-    element-copy-out-n
-    onward-requires
-    loop-holds
-    opening-requires
-    add-if1
-    add-followed
-    sub-walk
-    part-walk-start
-    part-walk-end
-    walk-requires
-    add-delay
-    add-k
-    loop-less
-    loop-again
-    mul-release
-    element-copy-out-release
-    mul-release-2
-    returns)
+    (tie.spec Inv-loop μ-loop (λ c. search needs) cast-p mul-n element-copy-out-n (λ c κs. search needs) loop-holds
+    first-hand-over-requires add-if1 add-followed sub-walk part-walk-start (λ c. search needs) walk-requires add-delay
+    add-k (λ c. search needs) loop-again mul-release element-copy-out-release mul-release-2 returns)

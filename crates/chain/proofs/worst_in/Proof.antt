@@ -3,52 +3,56 @@ use mathlib.Core.Path.{_≡_, sym, _∙_}
 use native.Mathlib.Omega.{arith}
 use lib.ListN.{length, length-map}
 use borrow.Author.Needs.{needs}
-use Rattle.chain.specs.Answer.{chainOf}
-use Rattle.chain.specs.SheetLaws.{chain-length}
-use Rattle.chain.specs.PlanLaws.{plan-path, plan-first, plan-worst}
+use Rattle.sheet.specs.Tasks.{tasksOf, chainOf}
+use Rattle.sheet.specs.TaskLaws.{chain-length}
+use Rattle.chain.specs.Conditions.{TakenChain}
+use Rattle.chain.specs.CallLaws.{sheet-chain}
+use Rattle.chain.specs.ArrayLaws.{arrays-path, arrays-first, arrays-worst}
 use Rattle.chain.proofs.worst_in.Statement.{statement}
 use Rattle.chain.proofs.worst_in.Tie as tie
+
+-- The start, where the chain is lent, and where the arrays are filled.
+abbrev start : tie.After-struct-known → tie.Start
+start c = c .before .before .before .before .before .before .before .before
+
+abbrev lending : tie.After-counts2 → tie.After-struct-known
+lending c = c .before .before .before .before .before
+
+abbrev arrays : tie.After-counts2 → tie.After-gather-tasks
+arrays c = c .before .before .before .before .before .before .before
 
 -- The chain's places are sixteen, of which the first `length` are lent.
 whole : (c : tie.Start) → length (c .args .s .chain) ≡ 16
 whole c = sym (length-map (c .args .s .chain) _) ∙ c .good .0 .1 .1 .1 .0 .1 .0 .1
 
 lent : (c : tie.Start) → length (chainOf (c .args .s)) ≡ c .args .s .length
-lent c = chain-length (c .pre .0 .sound) (whole c)
+lent c = chain-length (c .pre .0 .0) (whole c)
 
-gather-requires : tie.Need-gather-requires
-gather-requires c κs = search needs
-
-cast-m : tie.Need-cast-m
-cast-m c = search needs
+taken : (c : tie.Start) → TakenChain (tasksOf (c .args .s)) (chainOf (c .args .s))
+taken c = sheet-chain (c .pre .0 .0) (c .pre .0 .1)
 
 array-share-prefix-chain : tie.Need-array-share-prefix-chain
 array-share-prefix-chain c =
-    let s = c .before .before .before .before .before .before .before .before in
-    omega (arith, whole s, s .pre .0 .sound .length-most, s .pre .0 .sound .count-most)
+    let s = start c in
+    omega (arith, whole s, s .pre .0 .0 .length-most, s .pre .0 .0 .count-most)
 
 slice-aggregate-worst-along : tie.Need-slice-aggregate-worst-along
-slice-aggregate-worst-along c = sym (lent (c .before .before .before .before .before .before .before .before .before))
+slice-aggregate-worst-along c = sym (lent (start (c .before)))
 
 worst-along-requires : tie.Need-worst-along-requires
 worst-along-requires c κs =
-    let s = c .before .before .before .before .before .before .before .before .before .before .before .before .before in
-    let gathered = c .before .before .before .before .before .before .before .gather .ensures in
-    (plan-path (s .pre .0) (s .pre .1 .1) gathered (omega (arith, lent s, s .pre .0 .sound .length-least)), (omega (arith, lent s, s .pre .0 .sound .length-most, s .pre .0 .sound .count-most), plan-first (s .pre .0) (s .pre .1 .1) gathered))
+    let s = start (lending c) in
+    let gathered = arrays c .gather-tasks .ensures in
+    (arrays-path (taken s) (s .pre .1 .1) gathered (omega (arith, lent s, s .pre .0 .0 .length-least)), (omega (arith, lent s, s .pre .0 .0 .length-most, s .pre .0 .0 .count-most), arrays-first (taken s) (s .pre .1 .1) gathered))
 
 returns : tie.Need-returns
 returns c =
-    let s = c .before .before .before .before .before .before .before .before .before .before .before .before .before .before in
-    let gathered = c .before .before .before .before .before .before .before .before .gather .ensures in
-    plan-worst (s .pre .0) (s .pre .1 .1) gathered (c .worst-along .result) (c .worst-along .ensures)
+    let s = start (lending (c .before)) in
+    let gathered = arrays (c .before) .gather-tasks .ensures in
+    arrays-worst (taken s) (s .pre .1 .1) gathered (c .worst-along .result) (c .worst-along .ensures)
 
 pub worst-in-spec : {M : Type 1} → statement M
 worst-in-spec =
     tie.close
-    (tie.spec
-    gather-requires
-    cast-m
-    array-share-prefix-chain
-    slice-aggregate-worst-along
-    worst-along-requires
-    returns)
+    (tie.spec (λ c κs. search needs) (λ c. search needs) array-share-prefix-chain slice-aggregate-worst-along
+    worst-along-requires returns)

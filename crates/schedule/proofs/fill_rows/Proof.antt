@@ -1,18 +1,19 @@
 -- Row by row the part of the table that belongs to the task is lent to its walk, straight after the rows before it.
 use native.Mathlib.Nat.{div-le-self}
-use Rattle.theory.specs.Simulate.{greatest}
-use Rattle.schedule.specs.Answer.{rows}
+use Rattle.theory.specs.Model.Greatest.{greatest}
+use Rattle.sheet.specs.Tasks.{tasksOf}
+use Rattle.sheet.specs.TaskLaws.{jobs-at}
+use Rattle.schedule.specs.Calls.{rows}
 use mathlib.Core.Path.{_≡_, refl, sym, ap, _∙_, subst}
 use Prim.Native.Nat.{_+_, _-_, _/_, _≤_, _<_}
 use native.Mathlib.Numerals.{add-one}
 use native.Mathlib.Omega.{arith}
 use lib.ListN.{length, getD}
-use Rattle.theory.specs.Model.{none}
-use Rattle.theory.specs.Ranges.{sum}
-use Rattle.theory.specs.Responses.{jobs, allJobs}
-use Rattle.schedule.specs.Answer.{tasksOf}
-use Rattle.schedule.specs.Steps.{Filled}
-use Rattle.schedule.proofs.Tasks.{jobs-at, jobs-next, jobs-most, jobs-within, all-jobs}
+use Rattle.theory.specs.Model.Schedule.{none}
+use Rattle.arith.specs.Ranges.{sum}
+use Rattle.theory.specs.Model.Responses.{jobs, allJobs}
+use Rattle.schedule.specs.Conditions.{Filled}
+use Rattle.schedule.proofs.Tasks.{jobs-next, jobs-most, jobs-within, all-jobs}
 use Rattle.schedule.proofs.Entries.{part-length, row-more}
 use borrow.Author.Needs.{needs}
 use Rattle.schedule.proofs.fill_rows.Statement.{statement}
@@ -24,9 +25,6 @@ Inv-loop h table₀ s n found₀ from₀ i₀ table found from i =
 
 abbrev μ-loop : tie.MeasureT-loop
 μ-loop h table₀ s n found₀ from₀ i₀ table found from i = n - i
-
-cast-n : tie.Need-cast-n Inv-loop μ-loop
-cast-n c = search needs
 
 loop-holds : tie.Need-loop-holds Inv-loop μ-loop
 unfolding sum rows greatest
@@ -41,14 +39,8 @@ loop-holds c = (
   },
 )
 
-mul-end : tie.Need-mul-end Inv-loop μ-loop
-mul-end c = search needs
-
-element-copy-out-end : tie.Need-element-copy-out-end Inv-loop μ-loop
-element-copy-out-end c = search needs
-
 div-end : tie.Need-div-end Inv-loop μ-loop
-div-end c = c .before .before .before .pre .0 .sound .period-least (c .before .loop .i) (omega arith)
+div-end c = c .before .before .before .pre .0 .period-least (c .before .loop .i) (omega arith)
 
 cast-end : tie.Need-cast-end Inv-loop μ-loop
 cast-end c =
@@ -59,19 +51,13 @@ add-end : tie.Need-add-end Inv-loop μ-loop
 add-end c =
     let a = c .before .before .before in
     let l = c .before .loop in
-    omega (arith, l .inv .1, jobs-next (a .pre .0) (a .args .h) (l .i) (a .pre .1 .0) (omega arith), jobs-most (a .pre .0) (a .args .h) (l .i + 1) (a .pre .1 .0) (omega arith), a .pre .0 .sound .count-most)
+    omega (arith, l .inv .1, jobs-next (a .pre .0) (a .args .h) (l .i) (a .pre .1 .0) (omega arith), jobs-most (a .pre .0) (a .args .h) (l .i + 1) (a .pre .1 .0) (omega arith), a .pre .0 .count-most)
 
 mul-fill-row : tie.Need-mul-fill-row Inv-loop μ-loop
 mul-fill-row c =
     let a = c .before .before .before in
     let l = c .before .loop in
-    omega (arith, l .inv .1, jobs-most (a .pre .0) (a .args .h) (l .i) (a .pre .1 .0) (l .inv .0), a .pre .0 .sound .count-most)
-
-sub-fill-row : tie.Need-sub-fill-row Inv-loop μ-loop
-sub-fill-row c = search needs
-
-part-fill-row-start : tie.Need-part-fill-row-start Inv-loop μ-loop
-part-fill-row-start c = search needs
+    omega (arith, l .inv .1, jobs-most (a .pre .0) (a .args .h) (l .i) (a .pre .1 .0) (l .inv .0), a .pre .0 .count-most)
 
 part-fill-row-end : tie.Need-part-fill-row-end Inv-loop μ-loop
 part-fill-row-end c =
@@ -85,19 +71,13 @@ fill-row-requires c κs =
     let l = c .before .before .loop in
     let known : l .i < a .args .t1 .count = omega arith in
     let room : l .from + a .args .h / getD (a .args .t1 .tasks) (l .i) none .period ≤ length (l .table) = omega (arith, a .pre .1 .1, l .inv .1, l .inv .2 .same-length, jobs-within (a .pre .0) (a .args .h) (l .i) (a .pre .1 .0) known) in
-    (a .pre .0, (a .pre .1 .0, (known, part-length (l .from) _ (l .table) room ∙ sym (jobs-at (a .pre .0) (a .args .h) (l .i) (a .pre .1 .0) known))))
+    (a .pre .0, (a .pre .1 .0, (known, part-length (l .from) _ (l .table) room ∙ sym (jobs-at (a .pre .0) (a .pre .1 .0 .is-hyperperiod) (l .i) known))))
 
 noted-requires : tie.Need-noted-requires Inv-loop μ-loop
 noted-requires c κs =
     let a = c .before .before .before .before .before .before .before in
     let l = c .before .before .before .before .before .loop in
     (a .pre .0, (omega arith, (l .inv .2 .told, c .before .before .fill-row .ensures .noted)))
-
-add-i : tie.Need-add-i Inv-loop μ-loop
-add-i c = search needs
-
-loop-less : tie.Need-loop-less Inv-loop μ-loop
-loop-less c = search needs
 
 loop-again : tie.Need-loop-again Inv-loop μ-loop
 loop-again c =
@@ -111,9 +91,6 @@ loop-again c =
       rw (add-one (l .i)) (row-more (tasksOf (a .args .t1)) (l .i) (l .from) _ (a .args .table .now) (l .table) _ room (r .kept .1 .1 .1 .0 ∙ part-length (l .from) _ (l .table) room) (l .inv .2) (r .ensures) (c .noted .ensures)),
     )
 
-same-length : tie.Need-same-length Inv-loop μ-loop
-same-length c = search needs
-
 returns : tie.Need-returns Inv-loop μ-loop
 returns c =
     let a = c .before .before .before in
@@ -126,24 +103,6 @@ returns c =
 pub fill-rows-spec : {M : Type 1} → statement M
 fill-rows-spec =
     tie.close
-    (tie.spec
-    Inv-loop
-    μ-loop
-    cast-n
-    loop-holds
-    mul-end
-    element-copy-out-end
-    div-end
-    cast-end
-    add-end
-    mul-fill-row
-    sub-fill-row
-    part-fill-row-start
-    part-fill-row-end
-    fill-row-requires
-    noted-requires
-    add-i
-    loop-less
-    loop-again
-    same-length
-    returns)
+    (tie.spec Inv-loop μ-loop (λ c. search needs) loop-holds (λ c. search needs) (λ c. search needs) div-end cast-end
+    add-end mul-fill-row (λ c. search needs) (λ c. search needs) part-fill-row-end fill-row-requires noted-requires
+    (λ c. search needs) (λ c. search needs) loop-again (λ c. search needs) returns)

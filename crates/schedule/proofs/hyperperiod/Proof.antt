@@ -5,8 +5,9 @@ use native.Mathlib.Omega.{arith}
 use mathlib.Core.Path.{_≡_, sym, ap, _∙_}
 use Prim.Native.Nat.{_-_, _≤_}
 use lib.ListN.{drop}
-use Rattle.theory.specs.Responses.{hyperperiod}
-use Rattle.schedule.specs.Answer.{mostTicks, tasksOf}
+use Rattle.theory.specs.Model.Responses.{hyperperiod}
+use Rattle.sheet.specs.Tasks.{tasksOf}
+use Rattle.schedule.specs.Calls.{mostTicks}
 use Rattle.schedule.proofs.Tasks.{multiple-start, multiple-step, multiple-most}
 use borrow.Author.Needs.{needs}
 use Rattle.schedule.proofs.hyperperiod.Statement.{statement}
@@ -19,29 +20,8 @@ Inv-loop s multiple₀ i₀ multiple i =
 abbrev μ-loop : tie.MeasureT-loop
 μ-loop s multiple₀ i₀ multiple i = i
 
-cast-i : tie.Need-cast-i Inv-loop μ-loop
-cast-i c = search needs
-
 loop-holds : tie.Need-loop-holds Inv-loop μ-loop
 loop-holds c = (omega arith, omega arith, multiple-start (c .pre))
-
-sub-i : tie.Need-sub-i Inv-loop μ-loop
-sub-i c = search needs
-
-mul-lcm : tie.Need-mul-lcm Inv-loop μ-loop
-mul-lcm c = search needs
-
-element-copy-out-lcm : tie.Need-element-copy-out-lcm Inv-loop μ-loop
-element-copy-out-lcm c = search needs
-
-lcm-requires : tie.Need-lcm-requires Inv-loop μ-loop
-lcm-requires c κs = search needs
-
-enum-known-m : tie.Need-enum-known-m Inv-loop μ-loop
-enum-known-m c = search needs
-
-enum-told : tie.Need-enum-told Inv-loop μ-loop
-enum-told c = search needs
 
 returns : tie.Need-returns Inv-loop μ-loop
 returns c =
@@ -49,9 +29,6 @@ returns c =
     let l = c .before .before .before .before .loop in
     let over = told-over mostTicks _ (c .before .before .lcm .ensures) (c .enum-told .given .1) in
     sym (within-over mostTicks _ (omega (arith, over, multiple-step (a .pre) (l .i) (l .multiple) (omega arith) (l .inv .0) (l .inv .2), multiple-most (a .pre) (l .i - 1))))
-
-loop-less : tie.Need-loop-less Inv-loop μ-loop
-loop-less c = search needs
 
 loop-again : tie.Need-loop-again Inv-loop μ-loop
 loop-again c =
@@ -71,18 +48,5 @@ returns-2 c =
 pub hyperperiod-spec : {M : Type 1} → statement M
 hyperperiod-spec =
     tie.close
-    (tie.spec
-    Inv-loop
-    μ-loop
-    cast-i
-    loop-holds
-    sub-i
-    mul-lcm
-    element-copy-out-lcm
-    lcm-requires
-    enum-known-m
-    enum-told
-    returns
-    loop-less
-    loop-again
-    returns-2)
+    (tie.spec Inv-loop μ-loop (λ c. search needs) loop-holds (λ c. search needs) (λ c. search needs) (λ c. search needs)
+    (λ c κs. search needs) (λ c. search needs) (λ c. search needs) returns (λ c. search needs) loop-again returns-2)

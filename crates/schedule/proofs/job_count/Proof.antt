@@ -2,9 +2,9 @@
 use native.Mathlib.Omega.{arith}
 use mathlib.Core.Path.{_≡_, refl, sym, ap, _∙_}
 use Prim.Native.Nat.{_+_, _-_, _≤_}
-use Rattle.theory.specs.Ranges.{sum}
-use Rattle.theory.specs.Responses.{jobs as jobsOf}
-use Rattle.schedule.specs.Answer.{tasksOf}
+use Rattle.arith.specs.Ranges.{sum}
+use Rattle.theory.specs.Model.Responses.{jobs as jobsOf}
+use Rattle.sheet.specs.Tasks.{tasksOf}
 use Rattle.schedule.proofs.Tasks.{jobs-next, jobs-most, all-jobs}
 use borrow.Author.Needs.{needs}
 use Rattle.schedule.proofs.job_count.Statement.{statement}
@@ -17,33 +17,18 @@ Inv-loop h s n jobs₀ i₀ jobs i =
 abbrev μ-loop : tie.MeasureT-loop
 μ-loop h s n jobs₀ i₀ jobs i = n - i
 
-cast-n : tie.Need-cast-n Inv-loop μ-loop
-cast-n c = search needs
-
 loop-holds : tie.Need-loop-holds Inv-loop μ-loop
 unfolding sum
 loop-holds c = (omega arith, refl)
 
-mul-jobs : tie.Need-mul-jobs Inv-loop μ-loop
-mul-jobs c = search needs
-
-element-copy-out-jobs : tie.Need-element-copy-out-jobs Inv-loop μ-loop
-element-copy-out-jobs c = search needs
-
 div-jobs : tie.Need-div-jobs Inv-loop μ-loop
-div-jobs c = c .before .before .pre .0 .sound .period-least (c .before .loop .i) (omega arith)
+div-jobs c = c .before .before .pre .0 .period-least (c .before .loop .i) (omega arith)
 
 add-jobs : tie.Need-add-jobs Inv-loop μ-loop
 add-jobs c =
     let a = c .before .before in
     let l = c .before .loop in
-    omega (arith, l .inv .1, jobs-next (a .pre .0) (a .args .h) (l .i) (a .pre .1) (omega arith), jobs-most (a .pre .0) (a .args .h) (l .i + 1) (a .pre .1) (omega arith), a .pre .0 .sound .count-most)
-
-add-i : tie.Need-add-i Inv-loop μ-loop
-add-i c = search needs
-
-loop-less : tie.Need-loop-less Inv-loop μ-loop
-loop-less c = search needs
+    omega (arith, l .inv .1, jobs-next (a .pre .0) (a .args .h) (l .i) (a .pre .1) (omega arith), jobs-most (a .pre .0) (a .args .h) (l .i + 1) (a .pre .1) (omega arith), a .pre .0 .count-most)
 
 loop-again : tie.Need-loop-again Inv-loop μ-loop
 loop-again c =
@@ -61,16 +46,5 @@ returns c =
 pub job-count-spec : {M : Type 1} → statement M
 job-count-spec =
     tie.close
-    (tie.spec
-    Inv-loop
-    μ-loop
-    cast-n
-    loop-holds
-    mul-jobs
-    element-copy-out-jobs
-    div-jobs
-    add-jobs
-    add-i
-    loop-less
-    loop-again
-    returns)
+    (tie.spec Inv-loop μ-loop (λ c. search needs) loop-holds (λ c. search needs) (λ c. search needs) div-jobs add-jobs
+    (λ c. search needs) (λ c. search needs) loop-again returns)

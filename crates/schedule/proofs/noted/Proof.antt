@@ -2,69 +2,24 @@
 use mathlib.Core.Path.{sym, subst}
 use Prim.Native.Nat.{suc}
 use native.Mathlib.Omega.{arith}
-use Rattle.schedule.specs.Answer.{tasksOf}
-use Rattle.schedule.specs.Steps.{Noted, FoundTo}
+use Rattle.sheet.specs.Tasks.{tasksOf}
+use Rattle.schedule.specs.Conditions.{Noted, FoundTo}
 use Rattle.schedule.proofs.Notes.{late-first, late-greater, late-kept, on-time-late, on-time-lowest, on-time-kept}
 use borrow.Author.Needs.{needs}
 use Rattle.schedule.proofs.noted.Statement.{statement}
 use Rattle.schedule.proofs.noted.Tie as tie
 
-cast-index : tie.Need-cast-index
-cast-index c = search needs
-
-enum-told : tie.Need-enum-told
-enum-told c = search needs
-
-enum-known-found : tie.Need-enum-known-found
-enum-known-found c = search needs
-
-cast-if1 : tie.Need-cast-if1
-cast-if1 c = search needs
-
-mul-if1 : tie.Need-mul-if1
-mul-if1 c = search needs
-
 element-copy-out-if1 : tie.Need-element-copy-out-if1
 element-copy-out-if1 c =
     let a = c .before .before .before .before .before in
     let f = subst (FoundTo (tasksOf (a .args .t1)) (a .args .i)) (c .before .found .given .1) (a .pre .1 .1 .0) in
-    omega (arith, f .known, a .pre .0 .sound .count-most)
-
-mul-if1-2 : tie.Need-mul-if1-2
-mul-if1-2 c = search needs
-
-element-copy-out-if1-2 : tie.Need-element-copy-out-if1-2
-element-copy-out-if1-2 c = search needs
-
-enum-told-2 : tie.Need-enum-told-2
-enum-told-2 c = search needs
-
-enum-known-row : tie.Need-enum-known-row
-enum-known-row c = search needs
-
-enum-told-3 : tie.Need-enum-told-3
-enum-told-3 c = search needs
-
-enum-known-found-2 : tie.Need-enum-known-found-2
-enum-known-found-2 c = search needs
-
-mul-if2 : tie.Need-mul-if2
-mul-if2 c = search needs
-
-element-copy-out-if2 : tie.Need-element-copy-out-if2
-element-copy-out-if2 c = search needs
-
-cast-if2 : tie.Need-cast-if2
-cast-if2 c = search needs
-
-mul-if2-2 : tie.Need-mul-if2-2
-mul-if2-2 c = search needs
+    omega (arith, f .known, a .pre .0 .count-most)
 
 element-copy-out-if2-2 : tie.Need-element-copy-out-if2-2
 element-copy-out-if2-2 c =
     let a = c .before .before .before .before .before .before in
     let f = subst (FoundTo (tasksOf (a .args .t1)) (a .args .i)) (c .before .found2 .given .1) (a .pre .1 .1 .0) in
-    omega (arith, f .known, a .pre .0 .sound .count-most)
+    omega (arith, f .known, a .pre .0 .count-most)
 
 returns : tie.Need-returns
 returns c =
@@ -112,27 +67,7 @@ returns-6 c =
 pub noted-spec : {M : Type 1} → statement M
 noted-spec =
     tie.close
-    (tie.spec
-    cast-index
-    enum-told
-    enum-known-found
-    cast-if1
-    mul-if1
-    element-copy-out-if1
-    mul-if1-2
-    element-copy-out-if1-2
-    enum-told-2
-    enum-known-row
-    enum-told-3
-    enum-known-found-2
-    mul-if2
-    element-copy-out-if2
-    cast-if2
-    mul-if2-2
-    element-copy-out-if2-2
-    returns
-    returns-2
-    returns-3
-    returns-4
-    returns-5
-    returns-6)
+    (tie.spec (λ c. search needs) (λ c. search needs) (λ c. search needs) (λ c. search needs) (λ c. search needs)
+    element-copy-out-if1 (λ c. search needs) (λ c. search needs) (λ c. search needs) (λ c. search needs)
+    (λ c. search needs) (λ c. search needs) (λ c. search needs) (λ c. search needs) (λ c. search needs)
+    (λ c. search needs) element-copy-out-if2-2 returns returns-2 returns-3 returns-4 returns-5 returns-6)

@@ -1,114 +1,96 @@
 -- The judgements come in document 01's order; the rows stand in the table unless a task is late, and then zeros do.
-use Rattle.theory.specs.Responses.{allJobs}
+use Rattle.theory.specs.Model.Responses.{allJobs}
 use mathlib.Core.Path.{_≡_, sym, ap, _∙_, subst}
 use native.Mathlib.Omega.{arith}
-use lib.ListN.{length-map}
-use Rattle.sheet.specs.Answers.{given}
-use Rattle.sheet.specs.Told.{refusal}
-use Rattle.sheet.specs.Sound.{judged-sound}
-use Rattle.schedule.specs.Answer.{tasksOf, sizesOf, toldSize}
-use Rattle.schedule.specs.Cases.{sizes-given}
-use Rattle.schedule.specs.Steps.{Taken, refusalOf, lateOf, Filled}
-use Rattle.schedule.proofs.Endings.{ended-refused, ended-small, ended-late, ended-full}
+use Rattle.answers.specs.Answers.{given, refusal}
+use Rattle.sheet.specs.Sound.{Sound}
+use Rattle.sheet.specs.SoundLaws.{judged-sound}
+use Rattle.sheet.specs.Tasks.{tasksOf}
+use Rattle.schedule.specs.Calls.{sizesOf, toldSize}
+use Rattle.schedule.specs.CallLaws.{sizes-no, sizes-given}
+use Rattle.schedule.specs.Conditions.{lateOf, Filled}
+use Rattle.schedule.proofs.Endings.{answers-refused, answers-small, answers-late, answers-full}
 use borrow.Author.Needs.{needs}
 use Rattle.schedule.proofs.responses.Statement.{statement}
 use Rattle.schedule.proofs.responses.Tie as tie
 
+-- The start, before a refusal and where H and J are known; where the room is judged; and the rows as they are walked, where a task is late and where none is.
+abbrev refused : tie.After-enum-told → tie.Start
+refused c = c .before .before .before .before
+
+abbrev start : tie.After-z → tie.Start
+start c = c .before .before .before .before
+
+abbrev sized : tie.Else1 → tie.After-z
+sized c = c .before .before .before
+
+abbrev judged : tie.After-fill-rows → tie.Else1
+judged c = c .before .before
+
+abbrev late : tie.After-enum-told2 → tie.After-fill-rows
+late c = c .before .before .before .before
+
+abbrev cleared : tie.After-found-refusal → tie.After-enum-told2
+cleared c = c .before .before .before .before .before
+
+abbrev full : tie.After-found → tie.After-fill-rows
+full c = c .before .before .before .before
+
 -- H and J are within their limits.
-fits : (c : tie.After-z) → sizesOf (c .before .before .before .before .args .s) ≡ given (c .z .given .0 .0)
+fits : (c : tie.After-z) → sizesOf (start c .args .s) ≡ given (c .z .given .0 .0)
 fits c = sym (c .before .before .sizes .ensures) ∙ ap toldSize (c .z .given .1)
 
-taken : (c : tie.After-z) → Taken (c .before .before .before .before .args .s)
-taken c =
-    let s = c .before .before .before .before .args .s in
-    record { sound = judged-sound s (sizes-given s (fits c) .judged-fine); whole = sym (length-map (s .tasks) _) ∙ c .before .before .before .before .good .0 .1 .1 .0 .1 .0 .1 }
-
-sizes-requires : tie.Need-sizes-requires
-sizes-requires c κs = search needs
-
-enum-known-z : tie.Need-enum-known-z
-enum-known-z c = search needs
-
-enum-told : tie.Need-enum-told
-enum-told c = search needs
-
-sizes-refusal-requires : tie.Need-sizes-refusal-requires
-sizes-refusal-requires c κs = search needs
+sound : (c : tie.After-z) → Sound (start c .args .s)
+sound c = let s = start c .args .s in judged-sound s (sizes-given s (fits c) .judged-fine)
 
 returns : tie.Need-returns
 returns c =
     let no = c .before .enum-told .given .1 in
-    ended-refused (c .before .before .before .before .before .args .s) (c .before .before .before .before .before .args .table .now) (c .sizes-refusal .result)
-    (sym (c .before .before .before .sizes .ensures) ∙ ap toldSize no ∙ ap refusal (sym (c .sizes-refusal .ensures ∙ ap refusalOf no)))
-
-cast-jobs : tie.Need-cast-jobs
-cast-jobs c = search needs
+    answers-refused (refused (c .before) .args .s) (refused (c .before) .args .table .now) (c .sizes-refusal .result)
+    (sizes-no (c .before .before .before .sizes .ensures) no (c .sizes-refusal .ensures))
 
 returns-2 : tie.Need-returns-2
 returns-2 c =
     let z = c .before .before .before in
-    ended-small _ (c .before .before .before .before .before .before .before .args .table .now) (fits z) (c .if1 .taken)
+    answers-small _ (start (c .before .before .before) .args .table .now) (fits z) (c .if1 .taken)
 
 fill-rows-requires : tie.Need-fill-rows-requires
 fill-rows-requires c κs =
     let z = c .before .before .before .before in
     let x = sizes-given _ (fits z) in
-    (taken z, (record { is-hyperperiod = x .hyperperiod-is; within-limit = omega (arith, x) }, omega (arith, x .jobs-are, c .before .if1 .left)))
-
-enum-known-found : tie.Need-enum-known-found
-enum-known-found c = search needs
-
-enum-told-2 : tie.Need-enum-told-2
-enum-told-2 c = search needs
+    (sound z, (record { is-hyperperiod = x .hyperperiod-is; within-limit = omega (arith, x) }, omega (arith, x .jobs-are, c .before .if1 .left)))
 
 clear-requires : tie.Need-clear-requires
 clear-requires c κs =
-    omega (arith, c .before .before .before .before .before .fill-rows .ensures .same-length, c .before .before .before .before .before .before .before .if1 .left)
-
-found-refusal-requires : tie.Need-found-refusal-requires
-found-refusal-requires c κs = search needs
+    omega (arith, late (c .before) .fill-rows .ensures .same-length, judged (late (c .before)) .if1 .left)
 
 same-length : tie.Need-same-length
-same-length c = c .before .before .before .clear .kept .0 ∙ c .before .before .before .before .before .before .before .before .before .fill-rows .kept .1 .1 .0
+same-length c = c .before .before .before .clear .kept .0 ∙ late (cleared c) .fill-rows .kept .1 .1 .0
 
 returns-3 : tie.Need-returns-3
 returns-3 c =
-    let a = c .before .before .before .before .before .before .before .before .before .before .before .before .before .before .before .before .before .before in
-    let z = c .before .before .before .before .before .before .before .before .before .before .before .before .before .before in
-    let r = c .before .before .before .before .before .before .before .before .before .fill-rows in
-    let late = c .before .before .before .before .before .enum-told2 .given .1 in
-    rw (c .found-refusal .ensures ∙ ap lateOf late, c .before .before .before .clear .ensures)
-    (ended-late (a .args .s) (a .args .table .now) (fits z) (taken z) (c .before .before .before .before .before .before .before .before .before .before .before .if1 .left)
-    (subst (Filled (tasksOf (a .args .s)) (a .args .s .count) (allJobs (tasksOf (a .args .s))) (a .args .table .now) (r .last .1 .1 .0)) late (r .ensures)))
+    let a = start (sized (judged (late (cleared c)))) in
+    let z = sized (judged (late (cleared c))) in
+    let r = late (cleared c) .fill-rows in
+    let is = cleared c .enum-told2 .given .1 in
+    rw (c .before .before .before .clear .ensures, c .found-refusal .ensures ∙ ap lateOf is)
+    (answers-late (a .args .s) (a .args .table .now) (fits z) (sound z) (judged (late (cleared c)) .if1 .left)
+    (subst (Filled (tasksOf (a .args .s)) (a .args .s .count) (allJobs (tasksOf (a .args .s))) (a .args .table .now) (r .last .1 .1 .0)) is (r .ensures)))
 
 same-length-2 : tie.Need-same-length-2
-same-length-2 c = c .before .before .before .before .before .fill-rows .kept .1 .1 .0
+same-length-2 c = full (c .before) .fill-rows .kept .1 .1 .0
 
 returns-4 : tie.Need-returns-4
 returns-4 c =
-    let a = c .before .before .before .before .before .before .before .before .before .before .before .before .before .before in
-    let z = c .before .before .before .before .before .before .before .before .before .before in
-    let r = c .before .before .before .before .before .fill-rows in
-    ended-full (a .args .s) (a .args .table .now) (fits z) (taken z) (c .before .before .before .before .before .before .before .if1 .left)
+    let a = start (sized (judged (full (c .before)))) in
+    let z = sized (judged (full (c .before))) in
+    let r = full (c .before) .fill-rows in
+    answers-full (a .args .s) (a .args .table .now) (fits z) (sound z) (judged (full (c .before)) .if1 .left)
     (subst (Filled (tasksOf (a .args .s)) (a .args .s .count) (allJobs (tasksOf (a .args .s))) (a .args .table .now) (r .last .1 .1 .0)) (c .before .found .given .1) (r .ensures))
 
 pub responses-spec : {M : Type 1} → statement M
 responses-spec =
     tie.close
-    (tie.spec
-    sizes-requires
-    enum-known-z
-    enum-told
-    sizes-refusal-requires
-    returns
-    cast-jobs
-    returns-2
-    fill-rows-requires
-    enum-known-found
-    enum-told-2
-    clear-requires
-    found-refusal-requires
-    same-length
-    returns-3
-    same-length-2
-    returns-4)
+    (tie.spec (λ c κs. search needs) (λ c. search needs) (λ c. search needs) (λ c κs. search needs) returns
+    (λ c. search needs) returns-2 fill-rows-requires (λ c. search needs) (λ c. search needs) clear-requires
+    (λ c κs. search needs) same-length returns-3 same-length-2 returns-4)

@@ -1,52 +1,52 @@
 -- The rows that `responses` leaves hold each task's responses, so the greatest entry of a row is R of its task.
 use mathlib.Core.Path.{_≡_, refl, sym, ap, _∙_}
 use native.Mathlib.Omega.{arith}
-use lib.ListN.{length, replicate, length-map}
+use lib.ListN.{length, replicate}
 use Rattle.bits.specs.Bits.{listOf}
 use Rattle.sheet.specs.declared.Sheet.{Sheet}
-use Rattle.sheet.specs.declared.Refusal.{Refusal}
-use Rattle.sheet.specs.declared.Refusal.the-variants.{Number, Late}
-use Rattle.sheet.specs.Told.{refusal}
-use Rattle.sheet.specs.Sound.{judged-sound}
-use Rattle.schedule.specs.Answer.{greatestAfter, toldTotals}
-use Rattle.schedule.specs.Results.{responses-given, filled-holds}
+use Rattle.answers.specs.declared.Refusal.{Refusal}
+use Rattle.answers.specs.Answers.{refusal}
+use Rattle.sheet.specs.SoundLaws.{judged-sound}
+use Rattle.schedule.specs.Calls.{greatestAfter, toldTotals}
+use Rattle.schedule.specs.Results.{responses-given}
+use Rattle.schedule.specs.RowLaws.{filled-holds}
 use borrow.Author.Needs.{needs}
 use Rattle.schedule.proofs.task_responses.Statement.{statement}
 use Rattle.schedule.proofs.task_responses.Tie as tie
 
+-- The start, and the table as `responses` leaves it: before a refusal, and where it is filled.
+abbrev start : tie.After-responses → tie.Start
+start c = c .before .before .before
+
+abbrev refused : tie.After-enum-told → tie.After-responses
+refused c = c .before .before .before .before
+
+abbrev done : tie.After-answer → tie.After-responses
+done c = c .before .before .before .before
+
 -- a refusal leaves zeros
 greatest-none : (r : Refusal) (s : Sheet) → replicate 16 0 ≡ greatestAfter (refusal r) s
 unfolding listOf
-greatest-none (Number n) s = refl
-greatest-none (Late i) s = refl
-
-responses-requires : tie.Need-responses-requires
-responses-requires c κs = search needs
-
-enum-known-answer : tie.Need-enum-known-answer
-enum-known-answer c = search needs
-
-enum-told : tie.Need-enum-told
-enum-told c = search needs
+greatest-none r s = refl
 
 same-length : tie.Need-same-length
-same-length c = c .before .before .before .before .responses .kept .1 .0
+same-length c = refused c .responses .kept .1 .0
 
 returns : tie.Need-returns
 returns c =
-    let r = c .before .before .before .before .responses in
-    let s = c .before .before .before .before .before .before .before .args .s in
-    (r .ensures .0, (r .ensures .1, greatest-none (c .enum-told .given .0 .0) s ∙ sym (ap (λ a. greatestAfter a s) (sym (r .ensures .0) ∙ ap toldTotals (c .enum-told .given .1)))))
+    let r = refused c .responses in
+    let s = start (refused c) .args .s in
+    (r .ensures, greatest-none (c .enum-told .given .0 .0) s ∙ sym (ap (λ a. greatestAfter a s) (sym (r .ensures .0) ∙ ap toldTotals (c .enum-told .given .1))))
 
 greatest-each-requires : tie.Need-greatest-each-requires
 greatest-each-requires c κs =
-    let a = c .before .before .before .before .before .before .before .before .before in
-    let r = c .before .before .before .before .before .before .responses in
+    let a = start (done (c .before .before)) in
+    let r = done (c .before .before) .responses in
     let s = a .args .s in
     let old = a .args .table .now in
     let e = sym (r .ensures .0) ∙ ap toldTotals (c .before .before .answer .given .1) in
     let g = responses-given s (length old) e in (
-      record { sound = judged-sound s (g .judged-fine); whole = sym (length-map (s .tasks) _) ∙ a .good .0 .1 .1 .0 .1 .0 .1 },
+      judged-sound s (g .judged-fine),
       (
         record { is-hyperperiod = g .hyperperiod-is; within-limit = omega (arith, g) },
         filled-holds s old e (r .ensures .1),
@@ -54,24 +54,17 @@ greatest-each-requires c κs =
     )
 
 same-length-2 : tie.Need-same-length-2
-same-length-2 c = c .before .before .before .before .before .before .before .responses .kept .1 .0
+same-length-2 c = done (c .before .before .before) .responses .kept .1 .0
 
 returns-2 : tie.Need-returns-2
 returns-2 c =
-    let r = c .before .before .before .before .before .before .before .responses in
-    let s = c .before .before .before .before .before .before .before .before .before .before .args .s in
+    let r = done (c .before .before .before) .responses in
+    let s = start (done (c .before .before .before)) .args .s in
     let e = sym (r .ensures .0) ∙ ap toldTotals (c .before .before .before .answer .given .1) in
-    (sym e, (r .ensures .1, c .greatest-each .ensures ∙ sym (ap (λ a. greatestAfter a s) e)))
+    ((sym e, r .ensures .1), c .greatest-each .ensures ∙ sym (ap (λ a. greatestAfter a s) e))
 
 pub task-responses-spec : {M : Type 1} → statement M
 task-responses-spec =
     tie.close
-    (tie.spec
-    responses-requires
-    enum-known-answer
-    enum-told
-    same-length
-    returns
-    greatest-each-requires
-    same-length-2
-    returns-2)
+    (tie.spec (λ c κs. search needs) (λ c. search needs) (λ c. search needs) same-length returns greatest-each-requires
+    same-length-2 returns-2)

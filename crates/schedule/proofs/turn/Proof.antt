@@ -5,7 +5,7 @@ use native.Mathlib.Nat.{le-refl}
 use native.Mathlib.Omega.{arith}
 use Prim.Native.Nat.{suc, _-_, _<_}
 use Rattle.arith.specs.WholeLaws.{up-above}
-use Rattle.schedule.specs.Steps.{brings, placed, coming}
+use Rattle.schedule.specs.Conditions.{brings, placed, coming}
 use Rattle.schedule.proofs.Releases.{Moved, moved-now, moved-later, TurnedTo, turn-start, placed-fits, turned-now, turned-later}
 use borrow.Author.Needs.{needs}
 use Rattle.schedule.proofs.turn.Statement.{statement}
@@ -39,18 +39,6 @@ add-due c = omega (arith, c .before .before .before .pre)
 loop-holds : tie.Need-loop-holds Inv-loop μ-loop
 loop-holds c = turn-start (c .before .pre .next-at) (omega (arith, own-moved c, up-above (c .before .args .own .period) (suc (c .before .args .at)) (c .before .pre .own-positive)))
 
-mul-release : tie.Need-mul-release Inv-loop μ-loop
-mul-release c = search needs
-
-element-copy-out-release : tie.Need-element-copy-out-release Inv-loop μ-loop
-element-copy-out-release c = search needs
-
-mul-clear : tie.Need-mul-clear Inv-loop μ-loop
-mul-clear c = search needs
-
-element-copy-out-clear : tie.Need-element-copy-out-clear Inv-loop μ-loop
-element-copy-out-clear c = search needs
-
 add-clear-2 : tie.Need-add-clear-2 Inv-loop μ-loop
 unfolding coming
 add-clear-2 c =
@@ -58,28 +46,11 @@ add-clear-2 c =
     let l = c .before .before .before .before .before .before .loop in
     omega (arith, placed-fits (a .pre .places) (l .inv) (omega arith) (c .before .before .if3 .taken), a .pre .fits, own-moved (c .before .before .before .before .before .before .before))
 
-mul-after : tie.Need-mul-after Inv-loop μ-loop
-mul-after c = search needs
-
-element-copy-out-after : tie.Need-element-copy-out-after Inv-loop μ-loop
-element-copy-out-after c = search needs
-
 add-after : tie.Need-add-after Inv-loop μ-loop
 add-after c =
     let a = c .before .before .before .before .before .before .before .before .before in
-    omega (arith, a .pre .places .period-most (c .before .before .before .before .before .before .before .loop .p) (omega arith), a .pre .short)
-
-mul-next : tie.Need-mul-next Inv-loop μ-loop
-mul-next c = search needs
-
-element-write-next : tie.Need-element-write-next Inv-loop μ-loop
-element-write-next c = search needs
-
-add-p : tie.Need-add-p Inv-loop μ-loop
-add-p c = search needs
-
-loop-less : tie.Need-loop-less Inv-loop μ-loop
-loop-less c = search needs
+    let l = c .before .before .before .before .before .before .before .loop in
+    omega (arith, a .pre .places .period-most (l .p) (omega arith), a .pre .short)
 
 loop-again : tie.Need-loop-again Inv-loop μ-loop
 loop-again c =
@@ -115,23 +86,6 @@ returns c =
 pub turn-spec : {M : Type 1} → statement M
 turn-spec =
     tie.close
-    (tie.spec
-    Inv-loop
-    μ-loop
-    add-clear
-    add-due
-    loop-holds
-    mul-release
-    element-copy-out-release
-    mul-clear
-    element-copy-out-clear
-    add-clear-2
-    mul-after
-    element-copy-out-after
-    add-after
-    mul-next
-    element-write-next
-    add-p
-    loop-less
-    loop-again
-    returns)
+    (tie.spec Inv-loop μ-loop add-clear add-due loop-holds (λ c. search needs) (λ c. search needs) (λ c. search needs)
+    (λ c. search needs) add-clear-2 (λ c. search needs) (λ c. search needs) add-after (λ c. search needs)
+    (λ c. search needs) (λ c. search needs) (λ c. search needs) loop-again returns)

@@ -1,81 +1,61 @@
--- After i turns the first i places are taken.
+-- After i turns the first i places are taken, and the next entry begins so many entries further on.
 use mathlib.Core.Path.{_≡_, refl, ap, ap₂, _∙_}
-use Prim.Native.Nat.{_-_, _≤_, min}
+use Prim.Native.Nat.{ℕ, _+_, _-_, _*_, _≤_, min}
 use native.Mathlib.Omega.{arith}
 use lib.ListN.{set}
 use Rattle.bits.specs.Bits.{unpack, listOf}
 use Rattle.bits.specs.Laws.{number-lt}
 use Rattle.sheet.specs.declared.Field.the-variants.{Entry}
-use Rattle.sheet.specs.Fields.{place}
-use Rattle.sheet.specs.Calls.{places, entrySpelt}
+use Rattle.sheet.specs.Fields.{width}
+use Rattle.sheet.specs.Calls.{places}
+use Rattle.sheet.specs.Order.{entryAt}
 use Rattle.sheet.specs.PlaceLaws.{places-set, places-most}
 use borrow.Author.Needs.{needs}
 use Rattle.sheet.proofs.chain_at.Statement.{statement}
 use Rattle.sheet.proofs.chain_at.Tie as tie
 
 abbrev Inv-loop : tie.InvT-loop
-Inv-loop bytes n m chain₀ end i₀ chain i = (i ≤ end) × (end ≡ min m 16) × (chain ≡ places 0 i (entrySpelt (unpack bytes) n))
+Inv-loop bytes at m chain₀ end begin₀ i₀ chain begin i = (i ≤ end) × (end ≡ min m 16) × (at ≤ 50000) × (begin ≡ at + width (Entry i) * i) × (chain ≡ places 0 i (λ j. entryAt (unpack bytes) (at + width (Entry j) * j)))
 
 abbrev μ-loop : tie.MeasureT-loop
-μ-loop bytes n m chain₀ end i₀ chain i = end - i
-
-taken-requires : tie.Need-taken-requires Inv-loop μ-loop
-taken-requires c κs = search needs
+μ-loop bytes at m chain₀ end begin₀ i₀ chain begin i = end - i
 
 loop-holds : tie.Need-loop-holds Inv-loop μ-loop
 unfolding listOf
-loop-holds c = (omega arith, c .taken .ensures, refl)
-
-cast-k : tie.Need-cast-k Inv-loop μ-loop
-cast-k c = search needs
-
-spelt-at-requires : tie.Need-spelt-at-requires Inv-loop μ-loop
-spelt-at-requires c κs = search needs
+loop-holds c = (omega arith, c .taken .ensures, omega arith, omega arith, refl)
 
 cast-chain : tie.Need-cast-chain Inv-loop μ-loop
 cast-chain c =
-    let a = c .before .before .before .before .before .args in
-    omega (arith, c .spelt-at .ensures, number-lt (unpack (a .bytes .now)) (place (a .n) (Entry (c .before .before .loop .i))) 4)
+    let turn = c .before .before in
+    let a = turn .before .before .before .args in
+    omega (arith, c .number .ensures, number-lt (unpack (a .bytes .now)) (turn .loop .begin) 4)
 
 array-write-chain : tie.Need-array-write-chain Inv-loop μ-loop
 array-write-chain c = omega (arith, c .before .before .loop .inv .1)
 
-add-i : tie.Need-add-i Inv-loop μ-loop
-add-i c = search needs
-
-loop-less : tie.Need-loop-less Inv-loop μ-loop
-loop-less c = search needs
-
 loop-again : tie.Need-loop-again Inv-loop μ-loop
 loop-again c =
-    let a = c .before .before .before .before .before .args in
-    let l = c .before .before .loop in
-    let f = entrySpelt (unpack (a .bytes .now)) (a .n) in (
+    let turn = c .before .before in
+    let a = turn .before .before .before .args in
+    let l = turn .loop in
+    let bs = unpack (a .bytes .now) in
+    let f : ℕ → ℕ = λ j. entryAt bs (a .at + width (Entry j) * j) in (
       omega arith,
       l .inv .1,
-      ap₂ (λ x y. set x (l .i) y) (l .inv .2) (c .spelt-at .ensures) ∙ places-set 0 f (l .i) (omega (arith, l .inv .1)),
+      l .inv .2,
+      omega (arith, l .inv .3),
+      ap₂ (λ x y. set x (l .i) y) (l .inv .4) (c .number .ensures ∙ ap (entryAt bs) (l .inv .3)) ∙ places-set 0 f (l .i) (omega (arith, l .inv .1)),
     )
 
 returns : tie.Need-returns Inv-loop μ-loop
 returns c =
     let a = c .before .before .before .before .args in
     let l = c .before .loop in
-    let f = entrySpelt (unpack (a .bytes .now)) (a .n) in
-    l .inv .2 ∙ ap (λ k. places 0 k f) {x = l .i} {y = min (a .m) 16} (omega (arith, l .inv .1)) ∙ places-most 0 f (a .m)
+    let f : ℕ → ℕ = λ j. entryAt (unpack (a .bytes .now)) (a .at + width (Entry j) * j) in
+    l .inv .4 ∙ ap (λ k. places 0 k f) {x = l .i} {y = min (a .m) 16} (omega (arith, l .inv .1)) ∙ places-most 0 f (a .m)
 
 pub chain-at-spec : {M : Type 1} → statement M
 chain-at-spec =
     tie.close
-    (tie.spec
-    Inv-loop
-    μ-loop
-    taken-requires
-    loop-holds
-    cast-k
-    spelt-at-requires
-    cast-chain
-    array-write-chain
-    add-i
-    loop-less
-    loop-again
-    returns)
+    (tie.spec Inv-loop μ-loop (λ c κs. search needs) loop-holds (λ c. search needs) (λ c κs. search needs) cast-chain
+    array-write-chain (λ c. search needs) (λ c. search needs) (λ c. search needs) loop-again returns)

@@ -2,46 +2,30 @@
 use mathlib.Core.Path.{sym, ap, _∙_}
 use native.Mathlib.Omega.{arith}
 use borrow.Author.Tests.{le-leb, lt-leb}
-use Rattle.sheet.specs.Answers.{when, also}
+use Rattle.answers.specs.Answers.{when, also}
 use Rattle.sheet.specs.Fields.{among}
-use Rattle.sheet.specs.Steps.{nth}
+use Rattle.sheet.specs.Order.{nth}
 use borrow.Author.Needs.{needs}
 use Rattle.sheet.proofs.judge_entry.Statement.{statement}
 use Rattle.sheet.proofs.judge_entry.Tie as tie
 
-slice-aggregate-nth-of : tie.Need-slice-aggregate-nth-of
-slice-aggregate-nth-of c = search needs
-
-nth-of-requires : tie.Need-nth-of-requires
-nth-of-requires c κs = search needs
-
 returns : tie.Need-returns
 returns c =
-    let a = c .before .before .before .before .before .args in
+    let at-nth-of = c .before .before in
+    let a = at-nth-of .before .before .before .args in
     let e = nth (a .s .chain) in
     let repeats = when (among e (a .i) (e (a .i))) 8 in
-    sym (ap (λ b. also (when b 7) repeats) (le-leb (a .s .count) (e (a .i)) (omega (arith, c .before .before .nth-of .ensures))))
-
-slice-aggregate-fresh : tie.Need-slice-aggregate-fresh
-slice-aggregate-fresh c = search needs
-
-fresh-requires : tie.Need-fresh-requires
-fresh-requires c κs = search needs
+    sym (ap (λ b. also (when b 7) repeats) (le-leb (a .s .count) (e (a .i)) (omega (arith, at-nth-of .nth-of .ensures))))
 
 returns-2 : tie.Need-returns-2
 returns-2 c =
-    let a = c .before .before .before .before .before .before .before .args in
+    let at-nth-of = c .before .before .before .before in
+    let a = at-nth-of .before .before .before .args in
     let e = nth (a .s .chain) in
     let repeats = when (among e (a .i) (e (a .i))) 8 in
-    c .fresh .ensures ∙ sym (ap (λ b. also (when b 7) repeats) (lt-leb (a .s .count) (e (a .i)) (omega (arith, c .before .before .before .before .nth-of .ensures))))
+    c .fresh .ensures ∙ sym (ap (λ b. also (when b 7) repeats) (lt-leb (a .s .count) (e (a .i)) (omega (arith, at-nth-of .nth-of .ensures))))
 
 pub judge-entry-spec : {M : Type 1} → statement M
 judge-entry-spec =
     tie.close
-    (tie.spec
-    slice-aggregate-nth-of
-    nth-of-requires
-    returns
-    slice-aggregate-fresh
-    fresh-requires
-    returns-2)
+    (tie.spec (λ c. search needs) (λ c κs. search needs) returns (λ c. search needs) (λ c κs. search needs) returns-2)

@@ -1,133 +1,64 @@
 -- Each arm is the definition's clause for its field.
 use mathlib.Core.Path.{sym, ap, ap₂, _∙_}
-use Rattle.sheet.specs.Answers.{when}
-use Rattle.sheet.specs.Fields.{outside, among, judged}
+use Rattle.answers.specs.Answers.{when}
+use Rattle.sheet.specs.Fields.{value, outside, among, judged}
 use borrow.Author.Needs.{needs}
 use Rattle.sheet.proofs.judge_field.Statement.{statement}
 use Rattle.sheet.proofs.judge_field.Tie as tie
-
-enum-told : tie.Need-enum-told
-enum-told c = search needs
-
-wide-requires : tie.Need-wide-requires
-wide-requires c κs = search needs
-
-ranged-requires : tie.Need-ranged-requires
-ranged-requires c κs = search needs
-
-enum-known-f : tie.Need-enum-known-f
-enum-known-f c = search needs
-
-task-of-requires : tie.Need-task-of-requires
-task-of-requires c κs = search needs
-
-ranged-requires-2 : tie.Need-ranged-requires-2
-ranged-requires-2 c κs = search needs
-
-enum-known-f-2 : tie.Need-enum-known-f-2
-enum-known-f-2 c = search needs
-
-task-of-requires-2 : tie.Need-task-of-requires-2
-task-of-requires-2 c κs = search needs
-
-ranged-requires-3 : tie.Need-ranged-requires-3
-ranged-requires-3 c κs = search needs
-
-enum-known-f-3 : tie.Need-enum-known-f-3
-enum-known-f-3 c = search needs
-
-ranks-of-requires : tie.Need-ranks-of-requires
-ranks-of-requires c κs = search needs
-
-slice-aggregate-fresh : tie.Need-slice-aggregate-fresh
-slice-aggregate-fresh c = search needs
-
-fresh-requires : tie.Need-fresh-requires
-fresh-requires c κs = search needs
-
-enum-told-2 : tie.Need-enum-told-2
-enum-told-2 c = search needs
-
-wide-requires-2 : tie.Need-wide-requires-2
-wide-requires-2 c κs = search needs
-
-wide-requires-3 : tie.Need-wide-requires-3
-wide-requires-3 c κs = search needs
-
-ranged-requires-4 : tie.Need-ranged-requires-4
-ranged-requires-4 c κs = search needs
-
-enum-known-f-4 : tie.Need-enum-known-f-4
-enum-known-f-4 c = search needs
-
-judge-entry-requires : tie.Need-judge-entry-requires
-judge-entry-requires c κs = search needs
 
 returns : tie.Need-returns
 returns c =
     let a = c .before .before .before .before .args in
     c .ranged .ensures
-    ∙ ap (λ v. when (outside 1 16 v) 2) (c .before .wide .ensures)
-    ∙ sym (ap (judged (a .s)) (c .before .before .enum-told .given .1))
+    ∙ ap (λ v. when (outside 1 16 v) 2) (c .before .wide .ensures .0)
+    ∙ sym (ap (judged (value (a .s))) (c .before .before .enum-told .given .1))
 
 returns-2 : tie.Need-returns-2
 returns-2 c =
-    let a = c .before .before .before .before .before .args in
+    let at-task-of = c .before in
+    let at-f = at-task-of .before .before in
+    let a = at-f .before .before .args in
     c .ranged2 .ensures
-    ∙ ap (λ t. when (outside 1 100000 (t .period)) 3) (c .before .task-of .ensures)
-    ∙ sym (ap (judged (a .s)) (c .before .before .before .f .given .1))
+    ∙ ap (λ t. when (outside 1 100000 (t .period)) 3) (at-task-of .task-of .ensures)
+    ∙ sym (ap (judged (value (a .s))) (at-f .f .given .1))
 
 returns-3 : tie.Need-returns-3
 returns-3 c =
-    let a = c .before .before .before .before .before .args in
+    let at-task-of-2 = c .before in
+    let at-f-2 = at-task-of-2 .before .before in
+    let a = at-f-2 .before .before .args in
     c .ranged3 .ensures
-    ∙ ap (λ t. when (outside 1 (t .period) (t .budget)) 4) (c .before .task-of2 .ensures)
-    ∙ sym (ap (judged (a .s)) (c .before .before .before .f2 .given .1))
+    ∙ ap (λ t. when (outside 1 (t .period) (t .budget)) 4) (at-task-of-2 .task-of2 .ensures)
+    ∙ sym (ap (judged (value (a .s))) (at-f-2 .f2 .given .1))
 
 returns-4 : tie.Need-returns-4
 returns-4 c =
-    let a = c .before .before .before .before .before .before .args in
-    let i = c .before .before .before .before .f3 .given .0 .0 in
+    let at-ranks-of = c .before .before in
+    let at-f-3 = at-ranks-of .before .before in
+    let a = at-f-3 .before .before .args in
+    let i = at-f-3 .f3 .given .0 .0 in
     c .fresh .ensures
-    ∙ ap (λ r. when (among r i (r i)) 5) (c .before .before .ranks-of .ensures)
-    ∙ sym (ap (judged (a .s)) (c .before .before .before .before .f3 .given .1))
+    ∙ ap (λ r. when (among r i (r i)) 5) (at-ranks-of .ranks-of .ensures)
+    ∙ sym (ap (judged (value (a .s))) (at-f-3 .f3 .given .1))
 
 returns-5 : tie.Need-returns-5
 returns-5 c =
-    let a = c .before .before .before .before .before .args in
+    let at-wide-3 = c .before in
+    let at-wide-2 = at-wide-3 .before in
+    let at-enum-told-2 = at-wide-2 .before in
+    let a = at-enum-told-2 .before .before .args in
     c .ranged4 .ensures
-    ∙ ap₂ (λ n v. when (outside 1 n v) 6) (c .before .before .wide2 .ensures) (c .before .wide3 .ensures)
-    ∙ sym (ap (judged (a .s)) (c .before .before .before .enum-told2 .given .1))
+    ∙ ap₂ (λ n v. when (outside 1 n v) 6) (at-wide-2 .wide2 .ensures .0) (at-wide-3 .wide3 .ensures .0)
+    ∙ sym (ap (judged (value (a .s))) (at-enum-told-2 .enum-told2 .given .1))
 
 returns-6 : tie.Need-returns-6
-returns-6 c = c .judge-entry .ensures ∙ sym (ap (judged (c .before .before .before .before .args .s)) (c .before .before .f4 .given .1))
+returns-6 c = c .judge-entry .ensures ∙ sym (ap (judged (value (c .before .before .before .before .args .s))) (c .before .before .f4 .given .1))
 
 pub judge-field-spec : {M : Type 1} → statement M
 judge-field-spec =
     tie.close
-    (tie.spec
-    enum-told
-    wide-requires
-    ranged-requires
-    enum-known-f
-    task-of-requires
-    ranged-requires-2
-    enum-known-f-2
-    task-of-requires-2
-    ranged-requires-3
-    enum-known-f-3
-    ranks-of-requires
-    slice-aggregate-fresh
-    fresh-requires
-    enum-told-2
-    wide-requires-2
-    wide-requires-3
-    ranged-requires-4
-    enum-known-f-4
-    judge-entry-requires
-    returns
-    returns-2
-    returns-3
-    returns-4
-    returns-5
-    returns-6)
+    (tie.spec (λ c. search needs) (λ c κs. search needs) (λ c κs. search needs) (λ c. search needs)
+    (λ c κs. search needs) (λ c κs. search needs) (λ c. search needs) (λ c κs. search needs) (λ c κs. search needs)
+    (λ c. search needs) (λ c κs. search needs) (λ c. search needs) (λ c κs. search needs) (λ c. search needs)
+    (λ c κs. search needs) (λ c κs. search needs) (λ c κs. search needs) (λ c. search needs) (λ c κs. search needs)
+    returns returns-2 returns-3 returns-4 returns-5 returns-6)

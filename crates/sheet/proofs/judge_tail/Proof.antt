@@ -9,23 +9,8 @@ use borrow.Author.Needs.{needs}
 use Rattle.sheet.proofs.judge_tail.Statement.{statement}
 use Rattle.sheet.proofs.judge_tail.Tie as tie
 
-add-size : tie.Need-add-size
-add-size c = search needs
-
-cast-if1 : tie.Need-cast-if1
-cast-if1 c = search needs
-
 returns : tie.Need-returns
 returns c = let a = c .before .before .args in rw (lt-ltb ((a .end + 7) / 8) (length (a .bytes .now)) (omega arith))
-
-mul-number : tie.Need-mul-number
-mul-number c = search needs
-
-sub-number : tie.Need-sub-number
-sub-number c = search needs
-
-number-requires : tie.Need-number-requires
-number-requires c κs = search needs
 
 returns-2 : tie.Need-returns-2
 returns-2 c =
@@ -44,4 +29,5 @@ returns-3 c =
 pub judge-tail-spec : {M : Type 1} → statement M
 judge-tail-spec =
     tie.close
-    (tie.spec add-size cast-if1 returns mul-number sub-number number-requires returns-2 returns-3)
+    (tie.spec (λ c. search needs) (λ c. search needs) returns (λ c. search needs) (λ c. search needs)
+    (λ c κs. search needs) returns-2 returns-3)

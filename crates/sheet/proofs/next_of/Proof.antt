@@ -1,37 +1,14 @@
 -- The arms are the definition's, and an index below the width's top has a next.
 use mathlib.Core.Path.{sym, ap, _∙_}
 use native.Mathlib.Omega.{arith}
-use Rattle.sheet.specs.Steps.{next, index}
+use Rattle.sheet.specs.Order.{next}
+use Rattle.sheet.specs.Fields.{index}
 use borrow.Author.Needs.{needs}
 use Rattle.sheet.proofs.next_of.Statement.{statement}
 use Rattle.sheet.proofs.next_of.Tie as tie
 
-enum-told : tie.Need-enum-told
-enum-told c = search needs
-
-opening-of-requires : tie.Need-opening-of-requires
-opening-of-requires c κs = search needs
-
-enum-known-f : tie.Need-enum-known-f
-enum-known-f c = search needs
-
-enum-known-f-2 : tie.Need-enum-known-f-2
-enum-known-f-2 c = search needs
-
-enum-known-f-3 : tie.Need-enum-known-f-3
-enum-known-f-3 c = search needs
-
 add-opening-of : tie.Need-add-opening-of
 add-opening-of c = omega (arith, ap index (c .before .f3 .given .1))
-
-opening-of-requires-2 : tie.Need-opening-of-requires-2
-opening-of-requires-2 c κs = search needs
-
-enum-told-2 : tie.Need-enum-told-2
-enum-told-2 c = search needs
-
-enum-known-f-4 : tie.Need-enum-known-f-4
-enum-known-f-4 c = search needs
 
 add-t9 : tie.Need-add-t9
 add-t9 c = omega (arith, ap index (c .before .f4 .given .1))
@@ -57,20 +34,6 @@ returns-6 c = sym (ap (next (c .before .before .before .args .n)) (c .before .f4
 pub next-of-spec : {M : Type 1} → statement M
 next-of-spec =
     tie.close
-    (tie.spec
-    enum-told
-    opening-of-requires
-    enum-known-f
-    enum-known-f-2
-    enum-known-f-3
-    add-opening-of
-    opening-of-requires-2
-    enum-told-2
-    enum-known-f-4
-    add-t9
-    returns
-    returns-2
-    returns-3
-    returns-4
-    returns-5
-    returns-6)
+    (tie.spec (λ c. search needs) (λ c κs. search needs) (λ c. search needs) (λ c. search needs) (λ c. search needs)
+    add-opening-of (λ c κs. search needs) (λ c. search needs) (λ c. search needs) add-t9 returns returns-2 returns-3
+    returns-4 returns-5 returns-6)

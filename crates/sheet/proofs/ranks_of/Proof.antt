@@ -5,11 +5,11 @@ use native.Mathlib.Omega.{arith}
 use native.Mathlib.Decide.{decLt}
 use lib.ListN.{length, set, length-map, List·getD-eq-default}
 use Rattle.bits.specs.Bits.{listOf}
-use Rattle.theory.specs.Model.{none}
+use Rattle.theory.specs.Model.Schedule.{none}
 use Rattle.sheet.specs.declared.Sheet.{Sheet}
 use Rattle.sheet.specs.declared.Field.the-variants.{Rank}
 use Rattle.sheet.specs.Fields.{value}
-use Rattle.sheet.specs.Steps.{nth}
+use Rattle.sheet.specs.Order.{nth}
 use Rattle.sheet.specs.Calls.{places}
 use Rattle.sheet.specs.PlaceLaws.{length-places, places-set, places-taken}
 use borrow.Author.Needs.{needs}
@@ -25,21 +25,6 @@ abbrev μ-loop : tie.MeasureT-loop
 loop-holds : tie.Need-loop-holds Inv-loop μ-loop
 unfolding listOf
 loop-holds c = (omega arith, refl)
-
-mul-ranks : tie.Need-mul-ranks Inv-loop μ-loop
-mul-ranks c = search needs
-
-element-copy-out-ranks : tie.Need-element-copy-out-ranks Inv-loop μ-loop
-element-copy-out-ranks c = search needs
-
-array-write-ranks : tie.Need-array-write-ranks Inv-loop μ-loop
-array-write-ranks c = search needs
-
-add-k : tie.Need-add-k Inv-loop μ-loop
-add-k c = search needs
-
-loop-less : tie.Need-loop-less Inv-loop μ-loop
-loop-less c = search needs
 
 loop-again : tie.Need-loop-again Inv-loop μ-loop
 loop-again c =
@@ -69,14 +54,5 @@ returns c = fun-ext (λ j. ap (λ x. nth x j) whole ∙ go j (decLt j 16))
 pub ranks-of-spec : {M : Type 1} → statement M
 ranks-of-spec =
     tie.close
-    (tie.spec
-    Inv-loop
-    μ-loop
-    loop-holds
-    mul-ranks
-    element-copy-out-ranks
-    array-write-ranks
-    add-k
-    loop-less
-    loop-again
-    returns)
+    (tie.spec Inv-loop μ-loop loop-holds (λ c. search needs) (λ c. search needs) (λ c. search needs) (λ c. search needs)
+    (λ c. search needs) loop-again returns)

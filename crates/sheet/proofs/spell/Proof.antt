@@ -1,76 +1,49 @@
--- Every part is the number that its field spells, the counts in five bits.
-use mathlib.Core.Path.{_≡_, ap, ap₂, _∙_}
-use Prim.Native.Nat.{ℕ}
+-- Each count is read where the fields before it end, and what it counts straight after it.
+use mathlib.Core.Path.{ap, ap₂, _∙_}
+use Prim.Native.Nat.{ℕ, _+_, _*_}
 use native.Mathlib.Omega.{arith}
-use Rattle.bits.specs.Bits.{unpack}
+use Rattle.bits.specs.Bits.{unpack, number}
 use Rattle.bits.specs.Laws.{number-lt}
-use Rattle.theory.specs.Model.{none}
-use Rattle.sheet.specs.declared.Field.the-variants.{Count, Length}
-use Rattle.sheet.specs.Fields.{place}
-use Rattle.sheet.specs.Calls.{places, spelt, taskSpelt, entrySpelt, sheetSpelt, sheetOf}
+use Rattle.theory.specs.Model.Schedule.{none}
+use Rattle.sheet.specs.declared.Field.the-variants.{Length, Entry}
+use Rattle.sheet.specs.Fields.{width}
+use Rattle.sheet.specs.Calls.{places}
+use Rattle.sheet.specs.Order.{taskBits, taskAt, entryAt}
+use Rattle.sheet.specs.FormatLaws.{begin}
+use Rattle.sheet.specs.SpeltLaws.{sheet-at}
 use borrow.Author.Needs.{needs}
 use Rattle.sheet.proofs.spell.Statement.{statement}
 use Rattle.sheet.proofs.spell.Tie as tie
 
-spelt-at-requires : tie.Need-spelt-at-requires
-spelt-at-requires c κs = search needs
-
 cast-n : tie.Need-cast-n
-cast-n c =
-    let a = c .before .before .args in
-    omega (arith, c .spelt-at .ensures, number-lt (unpack (a .bytes .now)) (place 0 Count) 5)
-
-short-requires : tie.Need-short-requires
-short-requires c κs = search needs
-
-spelt-at-requires-2 : tie.Need-spelt-at-requires-2
-spelt-at-requires-2 c κs = search needs
+cast-n c = omega (arith, c .number .ensures, number-lt (unpack (c .before .before .args .bytes .now)) 0 5)
 
 cast-m : tie.Need-cast-m
 cast-m c =
-    let a = c .before .before .before .before .args in
-    omega (arith, c .spelt-at2 .ensures, number-lt (unpack (a .bytes .now)) (place (c .before .short .result) Length) 5)
-
-short-requires-2 : tie.Need-short-requires-2
-short-requires-2 c κs = search needs
-
-tasks-at-requires : tie.Need-tasks-at-requires
-tasks-at-requires c κs = search needs
-
-short-requires-3 : tie.Need-short-requires-3
-short-requires-3 c κs = search needs
-
-short-requires-4 : tie.Need-short-requires-4
-short-requires-4 c κs = search needs
-
-chain-at-requires : tie.Need-chain-at-requires
-chain-at-requires c κs = search needs
+    let counted = c .before .before .before .before in
+    let bs = unpack (counted .before .before .args .bytes .now) in
+    omega (arith, c .number2 .ensures, number-lt bs (begin (c .before .wide .result)) 5)
 
 returns : tie.Need-returns
-unfolding sheetOf
 returns c =
-    let bs = unpack (c .before .before .before .before .before .before .before .before .before .args .bytes .now) in
-    let n : ℕ = c .before .before .before .before .before .before .before .spelt-at .result in
-    let m : ℕ = c .before .before .before .before .before .spelt-at2 .result in
-    let n-is : n ≡ spelt bs 0 Count = c .before .before .before .before .before .before .before .spelt-at .ensures in
-    let m-is : m ≡ spelt bs n Length = c .before .before .before .before .before .spelt-at2 .ensures ∙ ap (λ k. spelt bs k Length) (c .before .before .before .before .before .before .short .ensures .0) in
-    let tasks-are = c .before .before .before .tasks-at .ensures ∙ ap (λ k. places none k (taskSpelt bs k)) (c .before .before .before .before .short2 .ensures .0) in
-    let chain-is = c .chain-at .ensures ∙ ap₂ (λ k l. places 0 l (entrySpelt bs k)) (c .before .before .short3 .ensures .0) (c .before .short4 .ensures .0) in
-    ap₂ (λ x y. record { tasks = x; chain = y; count = n; length = m }) tasks-are chain-is
-    ∙ ap₂ (sheetSpelt bs) n-is (m-is ∙ ap (λ k. spelt bs k Length) n-is)
+    let at-short-2 = c .before in
+    let at-number-2 = at-short-2 .before in
+    let at-wide = at-number-2 .before in
+    let at-tasks = at-wide .before in
+    let at-short = at-tasks .before in
+    let at-number = at-short .before in
+    let bs = unpack (at-number .before .before .args .bytes .now) in
+    let n : ℕ = at-number .number .result in
+    let m : ℕ = at-number-2 .number2 .result in
+    let is-wide = at-wide .wide .ensures .0 in
+    ap₂ (λ x y. record { tasks = x; chain = y; count = n; length = m })
+    (at-tasks .tasks-at .ensures ∙ ap (λ k. places none k (λ i. taskAt bs (begin 0 + taskBits * i))) (at-short .short .ensures .0))
+    (c .chain-at .ensures ∙ ap₂ (λ k w. places 0 k (λ i. entryAt bs (begin w + width Length + width (Entry i) * i))) (at-short-2 .short2 .ensures .0) is-wide)
+    ∙ sheet-at bs n m (at-number .number .ensures) (at-number-2 .number2 .ensures ∙ ap (λ w. number bs (begin w) 5) is-wide)
 
 pub spell-spec : {M : Type 1} → statement M
 spell-spec =
     tie.close
-    (tie.spec
-    spelt-at-requires
-    cast-n
-    short-requires
-    spelt-at-requires-2
-    cast-m
-    short-requires-2
-    tasks-at-requires
-    short-requires-3
-    short-requires-4
-    chain-at-requires
-    returns)
+    (tie.spec (λ c κs. search needs) cast-n (λ c κs. search needs) (λ c κs. search needs) (λ c κs. search needs)
+    (λ c. search needs) (λ c. search needs) (λ c κs. search needs) cast-m (λ c. search needs) (λ c κs. search needs)
+    (λ c κs. search needs) returns)

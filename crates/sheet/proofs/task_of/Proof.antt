@@ -2,16 +2,10 @@
 use mathlib.Core.Path.{_≡_, refl, sym, _∙_}
 use native.Mathlib.Omega.{arith}
 use lib.ListN.{length, length-map, List·getD-eq-default}
-use Rattle.theory.specs.Model.{none}
+use Rattle.theory.specs.Model.Schedule.{none}
 use borrow.Author.Needs.{needs}
 use Rattle.sheet.proofs.task_of.Statement.{statement}
 use Rattle.sheet.proofs.task_of.Tie as tie
-
-mul-result : tie.Need-mul-result
-mul-result c = search needs
-
-element-copy-out-result : tie.Need-element-copy-out-result
-element-copy-out-result c = search needs
 
 returns : tie.Need-returns
 returns c = refl
@@ -23,4 +17,4 @@ returns-2 c =
     sym (List·getD-eq-default (s .tasks) none (omega arith))
 
 pub task-of-spec : {M : Type 1} → statement M
-task-of-spec = tie.close (tie.spec mul-result element-copy-out-result returns returns-2)
+task-of-spec = tie.close (tie.spec (λ c. search needs) (λ c. search needs) returns returns-2)

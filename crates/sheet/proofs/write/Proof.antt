@@ -12,11 +12,11 @@ use Rattle.bits.specs.Laws.{length-bits, zero-bits}
 use Rattle.bits.specs.Lists.{sets-append}
 use Rattle.bits.specs.Bytes.{written-is}
 use Rattle.sheet.specs.declared.Sheet.{Sheet}
-use Rattle.sheet.specs.Answers.{Answer, given, when, also}
-use Rattle.sheet.specs.AnswerLaws.{also-no, also-fine, refusal-is, bufferAfter-no}
+use Rattle.answers.specs.Answers.{Answer, given, when, also, refusal}
+use Rattle.answers.specs.AnswerLaws.{also-no, also-fine, refusal-is}
+use Rattle.sheet.specs.Fields.{value}
 use Rattle.sheet.specs.FormatLaws.{length-bits-of}
 use Rattle.sheet.specs.Calls.{fieldsOf, bitsOf, endOf, sizeOf, writeOf}
-use Rattle.sheet.specs.Told.{refusal}
 use borrow.Author.Needs.{needs}
 use Rattle.sheet.proofs.write.Statement.{statement}
 use Rattle.sheet.proofs.write.Tie as tie
@@ -25,105 +25,64 @@ use Rattle.sheet.proofs.write.Tie as tie
 abbrev afterwards : Sheet → ℕ → Answer ℕ
 afterwards s room = also (when (ltb room (sizeOf s)) 14) (given (sizeOf s))
 
-judge-requires : tie.Need-judge-requires
-judge-requires c κs = search needs
-
-enum-told : tie.Need-enum-told
-enum-told c = search needs
-
-enum-told-2 : tie.Need-enum-told-2
-enum-told-2 c = search needs
-
-refusal-in-requires : tie.Need-refusal-in-requires
-refusal-in-requires c κs = search needs
-
 returns : tie.Need-returns
 unfolding writeOf
 returns c =
-    let a = c .before .before .before .before .before .args in
-    let p = c .before .enum-told2 .given .1 in
-    let e = ap refusal (refusal-is (c .refusal-in .ensures) p) in
-    (e ∙ sym (also-no (afterwards (a .s) (length (a .out .now))) (c .before .before .before .judge .ensures) p), sym (bufferAfter-no (c .refusal-in .result) (a .s) (a .out .now)))
-
-end-of-requires : tie.Need-end-of-requires
-end-of-requires c κs = search needs
-
-add-size : tie.Need-add-size
-add-size c = search needs
-
-cast-if1 : tie.Need-cast-if1
-cast-if1 c = search needs
+    let at-enum-told-2 = c .before in
+    let at-judge = at-enum-told-2 .before .before in
+    let a = at-judge .before .before .args in
+    let p = at-enum-told-2 .enum-told2 .given .1 in
+    let e = ap refusal (refusal-is (c .refusal-of .ensures) p) in
+    (e ∙ sym (also-no (afterwards (a .s) (length (a .out .now))) (at-judge .judge .ensures) p), refl)
 
 returns-2 : tie.Need-returns-2
 unfolding writeOf
 returns-2 c =
-    let a = c .before .before .before .before .before .before .args in
+    let at-end-of = c .before in
+    let at-enum-told = at-end-of .before in
+    let at-judge = at-enum-told .before .before in
+    let a = at-judge .before .before .args in
     let room = length (a .out .now) in (
-      sym (also-fine (afterwards (a .s) room) (c .before .before .before .before .judge .ensures) (c .before .before .enum-told .given .1)
-          ∙ ap (λ b. also (when b 14) (given (sizeOf (a .s)))) (lt-ltb room (sizeOf (a .s)) (omega (arith, c .before .end-of .ensures)))),
+      sym (also-fine (afterwards (a .s) room) (at-judge .judge .ensures) (at-enum-told .enum-told .given .1)
+          ∙ ap (λ b. also (when b 14) (given (sizeOf (a .s)))) (lt-ltb room (sizeOf (a .s)) (omega (arith, at-end-of .end-of .ensures .0)))),
       refl,
     )
-
-put-fields-requires : tie.Need-put-fields-requires
-put-fields-requires c κs = search needs
-
-mul-put : tie.Need-mul-put
-mul-put c = search needs
-
-sub-put : tie.Need-sub-put
-sub-put c = search needs
-
-put-requires : tie.Need-put-requires
-put-requires c κs = search needs
-
-cast-t8 : tie.Need-cast-t8
-cast-t8 c = search needs
-
-same-length : tie.Need-same-length
-same-length c = search needs
 
 returns-3 : tie.Need-returns-3
 unfolding writeOf
 returns-3 c =
-    let a = c .before .before .before .before .before .before .before .before .before .before .before .before .before .before .args in
+    let at-put = c .before .before in
+    let at-put-fields = at-put .before .before .before .before in
+    let at-if-1 = at-put-fields .before .before in
+    let at-end-of = at-if-1 .before in
+    let at-enum-told = at-end-of .before in
+    let at-judge = at-enum-told .before .before in
+    let at-slice-known = at-judge .before in
+    let a = at-slice-known .before .args in
     let s = a .s in
     let old = a .out .now in
-    let end : ℕ = c .before .before .before .before .before .before .before .before .before .end-of .result in
-    let end-is : end ≡ endOf s = c .before .before .before .before .before .before .before .before .before .end-of .ensures in
-    let fits : sizeOf s ≤ length old = omega (arith, end-is, c .before .before .before .before .before .before .before .before .if1 .left) in
-    let bs = bitsOf s (fieldsOf s) in
+    let end : ℕ = at-end-of .end-of .result in
+    let end-is : end ≡ endOf s = at-end-of .end-of .ensures .0 in
+    let fits : sizeOf s ≤ length old = omega (arith, end-is, at-if-1 .if1 .left) in
+    let bs = bitsOf (value s) (fieldsOf s) in
     let z : ℕ = (end + 7) / 8 * 8 - end in
     let pad = bits z 0 in
     let long : length bs ≡ end = length-bits-of s ∙ sym end-is in
-    let put : unpack (c .before .before .put .last .0) ≡ sets (unpack old) 0 (bs ++ pad) =
-    c .before .before .put .ensures
-    ∙ ap₂ (λ x w. sets x end (bits w 0)) {u = min z 32} {v = z} (c .before .before .before .before .before .before .put-fields .ensures) (omega arith)
+    let put : unpack (at-put .put .last .0) ≡ sets (unpack old) 0 (bs ++ pad) =
+    at-put .put .ensures
+    ∙ ap₂ (λ x w. sets x end (bits w 0)) {u = min z 32} {v = z} (at-put-fields .put-fields .ensures) (omega arith)
     ∙ ap (λ k. sets (sets (unpack old) 0 bs) k pad) {x = end} {y = 0 + length bs} (omega (arith, long))
     ∙ sym (sets-append bs pad (unpack old) 0) in (
       ap (λ x. given ((x + 7) / 8)) end-is
-          ∙ sym (also-fine (afterwards s (length old)) (c .before .before .before .before .before .before .before .before .before .before .before .before .judge .ensures) (c .before .before .before .before .before .before .before .before .before .before .enum-told .given .1)
+          ∙ sym (also-fine (afterwards s (length old)) (at-judge .judge .ensures) (at-enum-told .enum-told .given .1)
           ∙ ap (λ b. also (when b 14) (given (sizeOf s))) (le-ltb (length old) (sizeOf s) fits)),
       written-is bs pad (length-append bs pad ∙ omega (arith, long, length-bits z 0)) (zero-bits z) old _
-          (λ i. omega (arith, c .before .before .before .before .before .before .before .before .before .before .before .before .before .slice-known .given i)) (λ i. omega (arith, c .slice-known3 .given i)) (omega (arith, long, end-is)) put,
+          (λ i. omega (arith, at-slice-known .slice-known .given i)) (λ i. omega (arith, c .slice-known3 .given i)) (omega (arith, long, end-is)) put,
     )
 
 pub write-spec : {M : Type 1} → statement M
 write-spec =
     tie.close
-    (tie.spec
-    judge-requires
-    enum-told
-    enum-told-2
-    refusal-in-requires
-    returns
-    end-of-requires
-    add-size
-    cast-if1
-    returns-2
-    put-fields-requires
-    mul-put
-    sub-put
-    put-requires
-    cast-t8
-    same-length
-    returns-3)
+    (tie.spec (λ c κs. search needs) (λ c. search needs) (λ c. search needs) (λ c κs. search needs) returns
+    (λ c κs. search needs) (λ c. search needs) (λ c. search needs) returns-2 (λ c κs. search needs) (λ c. search needs)
+    (λ c. search needs) (λ c κs. search needs) (λ c. search needs) (λ c. search needs) returns-3)

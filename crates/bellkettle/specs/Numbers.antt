@@ -1,0 +1,57 @@
+-- Answers as a program in C gets them: a number that is returned, and values. Quotations are from document 01.
+use mathlib.Core.List.{List, [], _∷_, _++_, map}
+use Prim.Native.Nat.{ℕ}
+use lib.IntN.{ℤ, pos}
+use Rattle.answers.specs.Answers.{Answer, given, refused, after}
+use Rattle.sheet.specs.declared.Sheet.{Sheet}
+use Rattle.schedule.specs.declared.answer.Totals.{Totals}
+use Rattle.schedule.specs.Calls.{responsesOf}
+use Rattle.chain.specs.declared.answer.Figure.{Figure}
+use Rattle.chain.specs.declared.answer.Summary.{Summary}
+use Rattle.chain.specs.Calls.{delayOf, worstOf, boundOf, marginOf, defaultMarginOf, figuresOf}
+use Rattle.bellkettle.specs.declared.Question.{Question}
+use Rattle.bellkettle.specs.declared.Question.the-variants.{Responses, Delay, Worst, Bound, Margin, DefaultMargin, Figures}
+
+-- "A refusal returns its number": 0 where there is none.
+abbrev pub numberOf : Answer (List ℤ) → ℕ
+numberOf (given values) = 0
+numberOf (refused number values) = number
+
+-- The values that are given, or that a refusal returns besides its number.
+abbrev pub valuesOf : Answer (List ℤ) → List ℤ
+valuesOf (given values) = values
+valuesOf (refused number values) = map pos values
+
+-- ---- the numbers of an answer, in order
+
+abbrev pub inNumbers : {A : Type 0} → (A → List ℤ) → Answer A → Answer (List ℤ)
+inNumbers numbers answer = after answer λ a. given (numbers a)
+
+abbrev pub alone : ℕ → List ℤ
+alone n = pos n ∷ []
+
+abbrev pub signed : ℤ → List ℤ
+signed z = z ∷ []
+
+abbrev pub totalsNumbers : Totals → List ℤ
+totalsNumbers t = pos (t .hyperperiod) ∷ pos (t .jobs) ∷ pos (t .idle) ∷ []
+
+abbrev pub figureNumbers : Figure → List ℤ
+figureNumbers f = pos (f .ticks) ∷ pos (f .release) ∷ []
+
+abbrev pub summaryNumbers : Summary → List ℤ
+summaryNumbers s = totalsNumbers (s .totals) ++ figureNumbers (s .worst) ++ alone (s .bound) ++ signed (s .margin)
+
+-- n and m.
+abbrev pub countNumbers : Sheet → List ℤ
+countNumbers s = pos (s .count) ∷ pos (s .length) ∷ []
+
+-- What a sheet answers to a question, with a table of `room` entries.
+abbrev pub answerTo : Question → ℕ → Sheet → Answer (List ℤ)
+answerTo Responses room s = inNumbers totalsNumbers (responsesOf s room)
+answerTo (Delay release) room s = inNumbers alone (delayOf s release room)
+answerTo Worst room s = inNumbers figureNumbers (worstOf s room)
+answerTo Bound room s = inNumbers alone (boundOf s room)
+answerTo (Margin limit) room s = inNumbers signed (marginOf s limit room)
+answerTo DefaultMargin room s = inNumbers signed (defaultMarginOf s room)
+answerTo Figures room s = inNumbers summaryNumbers (figuresOf s room)

@@ -1,0 +1,26 @@
+-- What the functions under the calls tell each other.
+use mathlib.Core.Path.{_≡_}
+use mathlib.Core.List.{List}
+use Prim.Native.Nat.{ℕ, _≤_}
+use lib.IntN.{ℤ}
+use lib.ListN.{take}
+use Rattle.answers.specs.Answers.{Answer}
+use Rattle.sheet.specs.declared.Written.{Written}
+use Rattle.sheet.specs.declared.Written.the-variants.{Bytes, No as NoBytes}
+use Rattle.bellkettle.specs.declared.Reply.{Reply}
+use Rattle.bellkettle.specs.Numbers.{numberOf, valuesOf}
+
+-- The values of a reply.
+abbrev pub valuesTold : Reply → List ℤ
+valuesTold reply = take (reply .count) (reply .values)
+
+-- A reply has the number and the values of an answer.
+pub record Tells (reply : Reply) (answer : Answer (List ℤ)) : Type 0 where
+  pub count-most : reply .count ≤ 7
+  pub number-is : reply .number ≡ numberOf answer
+  pub values-are : valuesTold reply ≡ valuesOf answer
+
+-- The size of what was written.
+abbrev pub sizeIn : Written → ℕ
+sizeIn (Bytes n) = n
+sizeIn (NoBytes r) = 0

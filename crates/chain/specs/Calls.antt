@@ -1,0 +1,144 @@
+-- What the calls answer. Each leaves in the table what `responses` leaves with an answer, or with a refusal of that number
+-- (`tableAfter` of schedule). Quotations are from document 01.
+use mathlib.Core.Bool.{Bool, true, cond}
+use mathlib.Core.List.{List}
+use Prim.Native.Nat.{ℕ, _%_}
+use lib.Dec.{ltb, leb}
+use lib.IntN.{ℤ, pos, _-ℤ_}
+use Rattle.theory.specs.declared.Task.{Task}
+use Rattle.theory.specs.Model.Schedule.{period}
+use Rattle.theory.specs.Model.Responses.{response, hyperperiod, taskResponse}
+use Rattle.theory.specs.Model.Chain.{delay, worst, worstRelease, bound}
+use Rattle.sheet.specs.declared.Sheet.{Sheet}
+use Rattle.answers.specs.declared.Refusal.{Refusal}
+use Rattle.answers.specs.declared.Refusal.the-variants.{Number}
+use Rattle.answers.specs.Answers.{Answer, given, when, after, also, refusal}
+use Rattle.sheet.specs.Tasks.{tasksOf, chainOf, firstOf, restOf}
+use Rattle.schedule.specs.Calls.{sizesOf, responsesOf}
+use Rattle.schedule.specs.declared.answer.Totals.{Totals}
+use Rattle.chain.specs.declared.answer.Figure.{Figure}
+use Rattle.chain.specs.declared.answer.Delay.{Delay}
+use Rattle.chain.specs.declared.answer.Delay.the-variants.{Ticks as DelayTicks, No as NoDelay}
+use Rattle.chain.specs.declared.answer.Worst.{Worst}
+use Rattle.chain.specs.declared.answer.Worst.the-variants.{Is, No as NoWorst}
+use Rattle.chain.specs.declared.answer.Bound.{Bound}
+use Rattle.chain.specs.declared.answer.Bound.the-variants.{Ticks as BoundTicks, No as NoBound}
+use Rattle.chain.specs.declared.answer.Margin.{Margin}
+use Rattle.chain.specs.declared.answer.Margin.the-variants.{Ticks as MarginTicks, No as NoMargin}
+use Rattle.chain.specs.declared.answer.Summary.{Summary}
+use Rattle.chain.specs.declared.answer.Figures.{Figures}
+use Rattle.chain.specs.declared.answer.Figures.the-variants.{Of, No as NoFigures}
+
+-- The figures of a chain, by the responses of the full-budget schedule.
+abbrev pub delayAt : List Task → List ℕ → ℕ → ℕ
+delayAt ts chain release = delay ts (response ts) (firstOf chain) (restOf chain) release
+
+-- "The worst figure is the greatest delay over the first task's releases in 0 to H − 1. With it goes the smallest release that gives it."
+abbrev pub figureOf : List Task → List ℕ → Figure
+figureOf ts chain = record {
+  ticks = worst ts (response ts) (firstOf chain) (restOf chain);
+  release = worstRelease ts (response ts) (firstOf chain) (restOf chain);
+}
+
+abbrev pub quickBound : List Task → List ℕ → ℕ
+quickBound ts chain = bound ts (taskResponse ts) (firstOf chain) (restOf chain)
+
+-- "Margin is a limit less the worst figure, and may fall below zero."
+abbrev pub less : ℕ → ℕ → ℤ
+less limit figure = pos limit -ℤ pos figure
+
+-- 12: "the release asked for is not a multiple of the first chain task's T, or is H or more"
+abbrev pub noRelease : List Task → List ℕ → ℕ → Bool
+noRelease ts chain release = cond (leb (hyperperiod ts) release) true (ltb 0 (release % period ts (firstOf chain)))
+
+-- "2 to 8", "After that 10, 11, 12, 13, 14, 15, each in the calls that have the thing it judges": the answers for a table of `room` entries.
+unfoldable pub delayOf : Sheet → ℕ → ℕ → Answer ℕ
+delayOf s release room =
+    after (sizesOf s) λ size.
+    also (when (noRelease (tasksOf s) (chainOf s) release) 12)
+    (after (responsesOf s room) λ totals.
+    given (delayAt (tasksOf s) (chainOf s) release))
+
+unfoldable pub worstOf : Sheet → ℕ → Answer Figure
+worstOf s room =
+    after (responsesOf s room) λ totals.
+    given (figureOf (tasksOf s) (chainOf s))
+
+unfoldable pub boundOf : Sheet → ℕ → Answer ℕ
+boundOf s room =
+    after (responsesOf s room) λ totals.
+    given (quickBound (tasksOf s) (chainOf s))
+
+-- "margin limit 0 to 4,000,000"; "The call without a limit uses 1,000 ticks."
+abbrev pub mostLimit : ℕ
+mostLimit = 4000000
+
+abbrev pub defaultLimit : ℕ
+defaultLimit = 1000
+
+-- 13: "the limit is over 4,000,000"
+unfoldable pub marginOf : Sheet → ℕ → ℕ → Answer ℤ
+marginOf s limit room =
+    after (sizesOf s) λ size.
+    also (when (ltb mostLimit limit) 13)
+    (after (worstOf s room) λ figure.
+    given (less limit (figure .ticks)))
+
+abbrev pub defaultMarginOf : Sheet → ℕ → Answer ℤ
+defaultMarginOf s room = marginOf s defaultLimit room
+
+-- What a report says: "n, H, J, idle", "the worst figure and its smallest release; the bound; the margin under the default limit".
+abbrev pub summaryOf : List Task → List ℕ → Totals → Summary
+summaryOf ts chain totals = record {
+  totals = totals;
+  worst = figureOf ts chain;
+  bound = quickBound ts chain;
+  margin = less defaultLimit (figureOf ts chain .ticks);
+}
+
+unfoldable pub figuresOf : Sheet → ℕ → Answer Summary
+figuresOf s room =
+    after (responsesOf s room) λ totals.
+    given (summaryOf (tasksOf s) (chainOf s) totals)
+
+-- Document 01's answer for each case of the code's enums.
+abbrev pub toldDelay : Delay → Answer ℕ
+toldDelay (DelayTicks ticks) = given ticks
+toldDelay (NoDelay r) = refusal r
+
+abbrev pub toldWorst : Worst → Answer Figure
+toldWorst (Is figure) = given figure
+toldWorst (NoWorst r) = refusal r
+
+abbrev pub toldBound : Bound → Answer ℕ
+toldBound (BoundTicks ticks) = given ticks
+toldBound (NoBound r) = refusal r
+
+abbrev pub toldMargin : Margin → Answer ℤ
+toldMargin (MarginTicks ticks) = given ticks
+toldMargin (NoMargin r) = refusal r
+
+abbrev pub toldFigures : Figures → Answer Summary
+toldFigures (Of summary) = given summary
+toldFigures (NoFigures r) = refusal r
+
+-- The refusal in each; number 0, which no refusal has, where there is none.
+abbrev pub delayRefusal : Delay → Refusal
+delayRefusal (DelayTicks ticks) = Number 0
+delayRefusal (NoDelay r) = r
+
+abbrev pub worstRefusal : Worst → Refusal
+worstRefusal (Is figure) = Number 0
+worstRefusal (NoWorst r) = r
+
+abbrev pub boundRefusal : Bound → Refusal
+boundRefusal (BoundTicks ticks) = Number 0
+boundRefusal (NoBound r) = r
+
+abbrev pub marginRefusal : Margin → Refusal
+marginRefusal (MarginTicks ticks) = Number 0
+marginRefusal (NoMargin r) = r
+
+abbrev pub figuresRefusal : Figures → Refusal
+figuresRefusal (Of summary) = Number 0
+figuresRefusal (NoFigures r) = r

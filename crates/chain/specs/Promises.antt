@@ -1,0 +1,52 @@
+-- What each call promises: of its inputs, its answer, and the table lent to it as it was and as it is left.
+use mathlib.Core.Path.{_≡_}
+use mathlib.Core.List.{List}
+use Prim.Native.Nat.{ℕ}
+use lib.ListN.{length}
+use Rattle.answers.specs.declared.Refusal.{Refusal}
+use Rattle.sheet.specs.declared.Sheet.{Sheet}
+use Rattle.schedule.specs.Calls.{responsesOf, greatestAfter}
+use Rattle.schedule.specs.Promises.{AnswersAs}
+use Rattle.chain.specs.declared.answer.Delay.{Delay}
+use Rattle.chain.specs.declared.answer.Worst.{Worst}
+use Rattle.chain.specs.declared.answer.Bound.{Bound}
+use Rattle.chain.specs.declared.answer.Margin.{Margin}
+use Rattle.chain.specs.declared.answer.Figures.{Figures}
+use Rattle.chain.specs.declared.answer.TaskFigures.{TaskFigures}
+use Rattle.chain.specs.Calls.{defaultLimit, delayOf, worstOf, boundOf, marginOf, figuresOf, toldDelay, toldWorst, toldBound, toldMargin, toldFigures, delayRefusal, worstRefusal, boundRefusal, marginRefusal, figuresRefusal}
+
+abbrev pub DelayPromise : Sheet → ℕ → List ℕ → Delay → List ℕ → Type 0
+DelayPromise s release old r table = AnswersAs (delayOf s release (length old)) s old (toldDelay r) table
+
+abbrev pub WorstPromise : Sheet → List ℕ → Worst → List ℕ → Type 0
+WorstPromise s old r table = AnswersAs (worstOf s (length old)) s old (toldWorst r) table
+
+abbrev pub BoundPromise : Sheet → List ℕ → Bound → List ℕ → Type 0
+BoundPromise s old r table = AnswersAs (boundOf s (length old)) s old (toldBound r) table
+
+abbrev pub MarginPromise : Sheet → ℕ → List ℕ → Margin → List ℕ → Type 0
+MarginPromise s limit old r table = AnswersAs (marginOf s limit (length old)) s old (toldMargin r) table
+
+-- "The call without a limit uses 1,000 ticks."
+abbrev pub DefaultMarginPromise : Sheet → List ℕ → Margin → List ℕ → Type 0
+DefaultMarginPromise s old r table = MarginPromise s defaultLimit old r table
+
+abbrev pub FiguresPromise : Sheet → List ℕ → TaskFigures → List ℕ → Type 0
+FiguresPromise s old r table =
+    AnswersAs (figuresOf s (length old)) s old (toldFigures (r .answer)) table × (r .greatest ≡ greatestAfter (responsesOf s (length old)) s)
+
+-- The refusal that an answer holds.
+abbrev pub DelayRefusalPromise : Delay → Refusal → Type 0
+DelayRefusalPromise answer r = r ≡ delayRefusal answer
+
+abbrev pub WorstRefusalPromise : Worst → Refusal → Type 0
+WorstRefusalPromise answer r = r ≡ worstRefusal answer
+
+abbrev pub BoundRefusalPromise : Bound → Refusal → Type 0
+BoundRefusalPromise answer r = r ≡ boundRefusal answer
+
+abbrev pub MarginRefusalPromise : Margin → Refusal → Type 0
+MarginRefusalPromise answer r = r ≡ marginRefusal answer
+
+abbrev pub FiguresRefusalPromise : Figures → Refusal → Type 0
+FiguresRefusalPromise answer r = r ≡ figuresRefusal answer

@@ -1,0 +1,22 @@
+-- The laws of the schedule.
+pub mod Work
+pub mod Level
+pub mod Backlog
+pub mod Finish
+pub mod GreatestLaws
+pub mod Existence
+pub mod ResponseLaws
+pub mod Clearing
+pub mod Hyperperiod
+pub mod Repetition
+pub mod Idle
+pub mod NeverLater
+-- The laws of the chain.
+pub mod WalkLaws
+pub mod ChainLaws
+pub mod WalkPaths
+pub mod Paths
+-- The laws of the readings that it carries.
+pub mod ReadingLaws
+-- Figures of given sheets by evaluation.
+pub mod Evaluation

@@ -1,0 +1,4 @@
+pub mod Examples
+pub mod Quartet
+pub mod Overtaken
+pub mod Demand3

@@ -1,0 +1,413 @@
+//! Requests that are always made of the probe: document 01's sheets, both ends of each range, every place where bytes may end, each
+//! refusal alone and beside another, tables and buffers that are too short by one, exact and longer, and every call on every sample.
+
+use crate::probe::{Call, Handed, Lent, Request};
+use crate::schedule::{responses, sizes};
+use crate::sheet::{encoded, memory, packed, raw_bits, read, Memory, Task};
+use Call::*;
+
+pub fn requests() -> Vec<Request> {
+    [numbers_and_bits(), readings(), sheets_in_memory(), tables(), chains(), samples()].concat()
+}
+
+// Parts of requests
+
+fn task(period: u32, budget: u32, rank: u8) -> Task {
+    Task { period, budget, rank }
+}
+
+fn sheet(tasks: &[(u32, u32, u8)], chain: &[u8]) -> Memory {
+    let tasks: Vec<Task> = tasks.iter().map(|&(period, budget, rank)| task(period, budget, rank)).collect();
+    memory(&tasks, chain)
+}
+
+fn request(call: Call, numbers: [u32; 3], sheet: Handed, lent: Lent) -> Request {
+    Request { call, numbers, sheet, lent }
+}
+
+fn no_sheet() -> Handed {
+    Handed::Bytes(vec![])
+}
+
+fn nothing_lent() -> Lent {
+    Lent::Bytes(vec![])
+}
+
+fn buffer(room: usize) -> Lent {
+    Lent::Bytes(vec![0xA5; room])
+}
+
+fn table(room: usize, words: &[u32]) -> Lent {
+    Lent::Table { room, words: words.to_vec() }
+}
+
+// Whole numbers and bits
+
+fn numbers_and_bits() -> Vec<Request> {
+    let numbers = |call, a, b, c| request(call, [a, b, c], no_sheet(), nothing_lent());
+    let bytes = Handed::Bytes(vec![0x5A, 0xC3, 0xFF]);
+    vec![
+        numbers(Gcd, 84, 36, 0),
+        numbers(Gcd, 0, u32::MAX, 0),
+        numbers(Lcm, 12, 20, 60),
+        numbers(Lcm, 12, 20, 59),
+        numbers(Up, 7, 15, 0),
+        numbers(Up, u32::MAX, u32::MAX, 0),
+        numbers(Magnitude, 980, 0, 0),
+        numbers(Magnitude, 1 << 31, 0, 0),
+        request(Number, [6, 11, 0], bytes.clone(), nothing_lent()),
+        request(Number, [20, 40, 0], bytes, nothing_lent()),
+        request(Put, [5, 9, 0x155], no_sheet(), Lent::Bytes(vec![0xFF, 0, 0x0F])),
+        request(Put, [20, 40, 1], no_sheet(), Lent::Bytes(vec![0xFF, 0, 0x0F])),
+        request(Greatest, [0; 3], no_sheet(), table(5, &[3, u32::MAX, 9])),
+        request(Greatest, [0; 3], no_sheet(), table(0, &[])),
+    ]
+}
+
+// Readings: what the bytes hold, and where they are accepted the judgement of the sheet and its bytes written again
+
+fn readings() -> Vec<Request> {
+    let bytes = [document(), ends_of_ranges(), where_bytes_end(), two_faults()].concat();
+    bytes.into_iter().flat_map(reading).collect()
+}
+
+fn reading(bytes: Vec<u8>) -> Vec<Request> {
+    let taken = read(&bytes).is_ok();
+    let sheet = Handed::Bytes(bytes);
+    let mut requests = vec![request(Read, [0; 3], sheet.clone(), nothing_lent())];
+    if taken {
+        requests.push(request(Judge, [0; 3], sheet.clone(), nothing_lent()));
+        requests.push(request(Write, [0; 3], sheet, buffer(100)));
+    }
+    requests
+}
+
+/// n tasks that are allowed, with different ranks, 0 and 255 among them.
+fn tasks(n: u32) -> Vec<Task> {
+    (0..n).map(|i| task(100_000 - 7 * i, 1 + i, if i == 0 { 255 } else { i as u8 - 1 })).collect()
+}
+
+/// The largest sheet: sixteen tasks and a chain of sixteen.
+fn largest() -> (Vec<Task>, Vec<u8>) {
+    (tasks(16), (0..16).map(|i| (i * 7 + 15) % 16).collect())
+}
+
+fn document() -> Vec<Vec<u8>> {
+    let lone = vec![0x08, 0x00, 0x14, 0x00, 0x0A, 0x02, 0x10];
+    assert_eq!(lone, encoded(&[task(5, 5, 1)], &[0]));
+    vec![
+        lone.clone(),
+        encoded(&[task(5, 6, 1)], &[0]),
+        vec![],
+        [lone, vec![0]].concat(),
+        encoded(&[task(8, 1, 1), task(2, 1, 3), task(4, 1, 2)], &[0, 1, 2]),
+        encoded(&[task(20, 5, 1), task(6, 1, 3), task(12, 3, 2)], &[0, 1, 2]),
+        encoded(&[task(6, 1, 4), task(6, 1, 3), task(3, 1, 2), task(6, 1, 1)], &[2, 3]),
+    ]
+}
+
+fn ends_of_ranges() -> Vec<Vec<u8>> {
+    let one = |t: Task| encoded(&[t], &[0]);
+    let mut sheets = Vec::new();
+    for n in [0, 1, 16, 17, 31] {
+        sheets.push(packed(&raw_bits(n, &tasks(n.min(16)), 1, &[0])));
+    }
+    for period in [0, 1, 99_999, 100_000, 100_001, 131_071] {
+        sheets.push(one(task(period, 1, 9)));
+    }
+    for budget in [0, 1, 99, 100, 101, 131_071] {
+        sheets.push(one(task(100, budget, 9)));
+    }
+    for rank in [0, 1, 254, 255] {
+        sheets.push(one(task(100, 1, rank)));
+        for other in [0, 255] {
+            sheets.push(encoded(&[task(5, 1, other), task(6, 1, 77), task(7, 1, rank)], &[2]));
+        }
+    }
+    for n in [1, 2, 15, 16] {
+        for m in [0, 1, n - 1, n, n + 1, 31] {
+            let chain: Vec<u8> = (0..m.min(16) as u8).collect();
+            sheets.push(packed(&raw_bits(n, &tasks(n), m, &chain)));
+        }
+        for entry in [0, n as u8 - 1, n as u8 % 16, 15] {
+            sheets.push(encoded(&tasks(n), &[entry]));
+        }
+    }
+    for chain in [&[0, 0][..], &[1, 0, 1], &[1, 2, 0], &[2, 2, 2], &[3, 0, 0], &[0, 3, 0]] {
+        sheets.push(encoded(&tasks(3), chain));
+    }
+    sheets
+}
+
+fn where_bytes_end() -> Vec<Vec<u8>> {
+    let (t, c) = largest();
+    let long = encoded(&t, &c);
+    assert_eq!(94, long.len());
+    let mut sheets: Vec<Vec<u8>> = (0..=long.len()).map(|n| long[..n].to_vec()).collect();
+    sheets.push([&long[..], &[0]].concat());
+    sheets.push([&long[..], &[0, 1]].concat());
+    // Sheets with 0, 2, 4 and 6 spare bits: each of them set, alone.
+    for (n, m) in [(1, 1), (2, 1), (2, 2), (3, 1), (3, 3), (4, 2)] {
+        let chain: Vec<u8> = (0..m).collect();
+        let bits = raw_bits(n, &tasks(n), m.into(), &chain);
+        let spare = (8 - bits.len() % 8) % 8;
+        sheets.push(packed(&bits));
+        for k in 0..spare {
+            sheets.push(packed(&(bits.clone() + &"0".repeat(k) + "1" + &"0".repeat(spare - k - 1))));
+        }
+        sheets.push([&packed(&bits)[..], &[128]].concat());
+    }
+    sheets
+}
+
+/// Two faults on one sheet: the field that comes first counts, and in one field the end of the bytes.
+fn two_faults() -> Vec<Vec<u8>> {
+    let bad = task(0, 0, 1);
+    // The bytes end inside a field whose front is wrong already, and inside the field after a wrong one.
+    let cut = |bits: String, n: usize| packed(&bits)[..n].to_vec();
+    let same_ranks = || raw_bits(2, &[task(5, 5, 1), task(5, 5, 1)], 1, &[0]);
+    vec![
+        packed(&raw_bits(0, &[bad], 0, &[])),
+        encoded(&[bad], &[0]),
+        packed(&raw_bits(2, &[task(5, 6, 1), task(5, 5, 1)], 1, &[0])),
+        packed(&raw_bits(2, &[task(5, 5, 1), task(0, 5, 1)], 1, &[0])),
+        packed(&raw_bits(2, &[task(5, 5, 1), task(5, 5, 1)], 3, &[0])),
+        packed(&raw_bits(2, &[task(5, 5, 1), task(5, 5, 2)], 3, &[2])),
+        packed(&raw_bits(3, &tasks(3), 3, &[3, 3, 3])),
+        packed(&raw_bits(3, &tasks(3), 3, &[1, 1, 3])),
+        packed(&(raw_bits(2, &tasks(2), 2, &[1, 1]) + "1")),
+        cut(raw_bits(1, &[task(131_071, 1, 1)], 1, &[0]), 2),
+        cut(raw_bits(1, &[task(131_071, 1, 1)], 1, &[0]), 3),
+        cut(raw_bits(1, &[task(5, 9, 1)], 1, &[0]), 4),
+        cut(raw_bits(1, &[task(5, 9, 1)], 1, &[0]), 5),
+        cut(same_ranks(), 11),
+        cut(same_ranks(), 12),
+    ]
+}
+
+// Sheets in memory, judged and written
+
+fn sheets_in_memory() -> Vec<Request> {
+    let (t, c) = largest();
+    let good = memory(&t, &c);
+    let small = memory(&[task(5, 5, 1)], &[0]);
+    // Unused places do not matter.
+    let mut noisy = Memory { tasks: [task(u32::MAX, 0, 1); 16], chain: [200; 16], ..small };
+    noisy.tasks[0] = small.tasks[0];
+    noisy.chain[0] = 0;
+    let mut sheets = vec![(Memory::default(), 100), (noisy, 7), (Memory { count: 15, length: 15, ..good }, 100)];
+    sheets.extend([0, 93, 94, 95, 100].map(|room| (good, room)));
+    sheets.extend([0, 6, 7, 8, 100].map(|room| (small, room)));
+    for count in [0, 17, 255] {
+        sheets.push((Memory { count, ..good }, 100));
+        sheets.push((Memory { count, length: 0, ..small }, 0));
+    }
+    for length in [0, 17, 255] {
+        sheets.push((Memory { length, ..good }, 100));
+        sheets.push((Memory { length, ..small }, 0));
+    }
+    for period in [0, 1, 100_000, 100_001, 131_072, 131_077, u32::MAX] {
+        for budget in [0, 1, 100_000, 100_001, 131_073, u32::MAX] {
+            let mut s = good;
+            s.tasks[15] = task(period, budget, 200);
+            sheets.push((s, 94));
+        }
+    }
+    for at in [1, 14, 15] {
+        for from in [0, 13] {
+            let mut s = good;
+            s.tasks[at].rank = s.tasks[from].rank;
+            sheets.push((s, 94));
+        }
+    }
+    for entry in [0, 15, 16, 200, 255] {
+        for at in [0, 15] {
+            let mut s = good;
+            s.chain[at] = entry;
+            sheets.extend([94, 93].map(|room| (s, room)));
+        }
+    }
+    let judged_and_written = |(s, room): (Memory, usize)| {
+        let sheet = Handed::Memory(s);
+        [request(Judge, [0; 3], sheet.clone(), nothing_lent()), request(Write, [0; 3], sheet, buffer(room))]
+    };
+    sheets.into_iter().flat_map(judged_and_written).collect()
+}
+
+// Job tables: of more entries than are needed, exactly as many, one too few, and none
+
+fn tables() -> Vec<Request> {
+    let alone = |tasks: &[(u32, u32, u8)]| sheet(tasks, &[0]);
+    let trio = alone(&[(8, 1, 1), (2, 1, 3), (4, 1, 2)]);
+    let radio = alone(&[(20, 5, 1), (6, 1, 3), (12, 3, 2)]);
+    let quartet = alone(&[(6, 1, 4), (6, 1, 3), (3, 1, 2), (6, 1, 1)]);
+    let late = alone(&[(2, 1, 2), (3, 2, 1)]);
+    let late_early_and_later = alone(&[(3, 1, 1), (10, 6, 2), (2, 1, 3)]);
+    let pair = |a, b| alone(&[(a, 1, 2), (b, 1, 1)]);
+    let sixteen = |budgets: [u32; 16]| {
+        let periods = [40, 50, 60, 75, 80, 90, 100, 120, 144, 150, 180, 200, 225, 240, 300, 360];
+        let ranks = [200, 3, 77, 255, 0, 19, 140, 101, 64, 9, 230, 55, 180, 33, 120, 91];
+        alone(&(0..16).map(|i| (periods[i], budgets[i], ranks[i])).collect::<Vec<_>>())
+    };
+    let on_time = sixteen([1, 1, 1, 2, 2, 2, 2, 3, 3, 3, 4, 4, 4, 4, 5, 5]);
+    let sixteen_late = sixteen([2, 3, 3, 4, 4, 5, 5, 6, 7, 7, 8, 8, 9, 9, 10, 11]);
+    let asked = [
+        (trio, 7, 9),
+        (radio, 20, 7),
+        (radio, 18, 0),
+        (quartet, 8, 3),
+        (alone(&[(5, 5, 1)]), 2, 8),
+        (late, 7, 1),
+        (late_early_and_later, 30, 1),
+        (trio, 6, 9),
+        (trio, 0, 9),
+        (late, 4, 1),
+        (alone(&[(5, 6, 1)]), 3, 6),
+        (alone(&[]), 3, 6),
+        (pair(1_000, 999), 2_048, 5),
+        (pair(1_000, 999), 1_999, 5),
+        (pair(1_000, 999), 1_998, 5),
+        (pair(1_000, 1_001), 2_048, 5),
+        (pair(2, 16_382), 8_200, 5),
+        (pair(2, 16_382), 8_192, 5),
+        (pair(2, 16_382), 8_191, 5),
+        (pair(2, 16_384), 8_200, 5),
+        (on_time, 600, 4),
+        (sixteen_late, 600, 4),
+    ];
+    asked.into_iter().map(|(s, room, old)| request(Responses, [0; 3], Handed::Memory(s), table(room, &[old]))).collect()
+}
+
+// Chains, some of which go far beyond H, and calls where two faults meet
+
+fn chains() -> Vec<Request> {
+    let radio = |length: usize| sheet(&[(20, 5, 1), (6, 1, 3), (12, 3, 2)], &[0, 1, 2][..length]);
+    let trio = sheet(&[(8, 1, 1), (2, 1, 3), (4, 1, 2)], &[0, 1, 2]);
+    let quartet = sheet(&[(6, 1, 4), (6, 1, 3), (3, 1, 2), (6, 1, 1)], &[2, 3]);
+    let lone = sheet(&[(5, 5, 1)], &[0]);
+    // Each of sixteen tasks of one period outranks the one before it: each hand-over waits for the next period.
+    let straight: Vec<u8> = (0..16).collect();
+    let ladder = |period| sheet(&(0..16).map(|rank| (period, 1, rank)).collect::<Vec<_>>(), &straight);
+    let late = sheet(&[(2, 1, 2), (3, 2, 1)], &[0, 1]);
+    let many = sheet(&[(2, 1, 2), (16_384, 1, 1)], &[0, 1]);
+    let long = sheet(&[(1_000, 1, 2), (1_001, 1, 1)], &[0, 1]);
+    let repeated = sheet(&[(1_000, 1, 2), (1_001, 1, 1)], &[0, 0]);
+    let long_and_many = sheet(&[(1, 1, 3), (1_000, 1, 2), (1_001, 1, 1)], &[0, 1, 2]);
+    let figures = [
+        (Delay, 0, radio(3), 20),
+        (Delay, 20, radio(3), 20),
+        (Delay, 40, radio(3), 18),
+        (Worst, 0, radio(3), 20),
+        (Bound, 0, radio(3), 20),
+        (Delay, 0, radio(2), 20),
+        (Delay, 20, radio(2), 20),
+        (Delay, 40, radio(2), 20),
+        (Worst, 0, radio(2), 18),
+        (Bound, 0, radio(2), 18),
+        (Worst, 0, trio, 20),
+        (Bound, 0, trio, 7),
+        (Delay, 0, quartet, 20),
+        (Delay, 3, quartet, 20),
+        (Worst, 0, quartet, 20),
+        (Bound, 0, quartet, 20),
+        (Worst, 0, lone, 1),
+        (Bound, 0, lone, 20),
+        (Delay, 0, ladder(100_000), 16),
+        (Worst, 0, ladder(100_000), 20),
+        (Bound, 0, ladder(100_000), 20),
+        (Worst, 0, ladder(16), 20),
+    ];
+    let margins = [
+        (DefaultMargin, 0, radio(3), 20),
+        (Margin, 21, radio(3), 20),
+        (Margin, 20, radio(3), 20),
+        (Margin, 19, radio(3), 20),
+        (Margin, 0, radio(3), 20),
+        (Margin, 4_000_000, radio(3), 20),
+        (Margin, 0, ladder(100_000), 20),
+        (DefaultMargin, 0, ladder(100_000), 20),
+        (Margin, 4_000_001, radio(3), 20),
+        (Margin, u32::MAX, radio(3), 20),
+    ];
+    let refusals = [
+        (Delay, 1, radio(3), 20),
+        (Delay, 60, radio(3), 20),
+        (Delay, 80, radio(3), 20),
+        (Delay, u32::MAX, radio(3), 20),
+        (Delay, 0, radio(0), 20),
+        (Delay, 1, repeated, 0),
+        (Delay, 1, long, 0),
+        (Delay, 0, long_and_many, 20),
+        (Delay, 1, many, 0),
+        (Delay, 1, late, 0),
+        (Delay, 6, late, 20),
+        (Delay, 0, late, 4),
+        (Delay, 2, late, 5),
+        (Worst, 0, repeated, 0),
+        (Worst, 0, long_and_many, 0),
+        (Worst, 0, many, 0),
+        (Worst, 0, radio(3), 17),
+        (Worst, 0, late, 4),
+        (Worst, 0, late, 20),
+        (Bound, 0, repeated, 0),
+        (Bound, 0, long, 0),
+        (Bound, 0, many, 0),
+        (Bound, 0, late, 4),
+        (Bound, 0, late, 20),
+        (Margin, 4_000_001, repeated, 0),
+        (Margin, 4_000_001, long_and_many, 0),
+        (Margin, 4_000_001, many, 0),
+        (Margin, 4_000_001, late, 4),
+        (Margin, 4_000_001, late, 20),
+        (Margin, 4_000_000, late, 4),
+        (Margin, 0, late, 6),
+        (DefaultMargin, 0, many, 0),
+        (DefaultMargin, 0, late, 4),
+        (DefaultMargin, 0, late, 20),
+    ];
+    let asked = figures.into_iter().chain(margins).chain(refusals);
+    asked.map(|(call, number, s, room)| request(call, [number, 0, 0], Handed::Memory(s), table(room, &[7]))).collect()
+}
+
+// Every call on every sample, and on sheets in memory
+
+fn samples() -> Vec<Request> {
+    let mut names: Vec<_> = std::fs::read_dir(concat!(env!("CARGO_MANIFEST_DIR"), "/../samples"))
+        .expect("the samples are there")
+        .map(|entry| entry.unwrap().path())
+        .filter(|path| path.extension().map_or(false, |x| x == "sheet"))
+        .collect();
+    names.sort();
+    let radio = sheet(&[(20, 5, 1), (6, 1, 3), (12, 3, 2)], &[2, 1]);
+    let noisy = Memory { chain: [2, 1, 9, 9, 9, 9, 9, 9, 9, 9, 9, 9, 9, 9, 9, 255], ..radio };
+    let bytes = names.iter().map(|path| Handed::Bytes(std::fs::read(path).unwrap()));
+    let sheets = bytes.chain([noisy, Memory::default()].map(Handed::Memory));
+    sheets.flat_map(|s| every_call(&s)).collect()
+}
+
+/// The table has three entries more than are needed, or twenty where none are.
+fn every_call(sheet: &Handed) -> Vec<Request> {
+    let jobs = sheet.memory().and_then(|s| sizes(&s).ok()).map_or(17, |z| z.jobs);
+    let with = |call, number, lent| request(call, [number, 0, 0], sheet.clone(), lent);
+    let with_table = |call, number| with(call, number, table(jobs as usize + 3, &[7, 8, 9]));
+    let mut requests = match sheet {
+        Handed::Bytes(_) => vec![with(Read, 0, nothing_lent())],
+        Handed::Memory(_) => vec![],
+    };
+    requests.extend([with(Judge, 0, nothing_lent()), with(Write, 0, buffer(94)), with(Sizes, 0, nothing_lent())]);
+    requests.extend([
+        with_table(Responses, 0),
+        with_table(TaskResponses, 0),
+        with_table(Delay, 0),
+        with_table(Delay, 20),
+        with_table(Worst, 0),
+        with_table(Bound, 0),
+        with_table(Margin, 8),
+        with_table(DefaultMargin, 0),
+        with_table(Figures, 0),
+    ]);
+    if let Some(Ok(worked)) = sheet.memory().map(|s| responses(&s, &mut vec![0; jobs as usize])) {
+        requests.push(request(Greatest, [0; 3], no_sheet(), table(jobs as usize, &worked.responses.concat())));
+    }
+    requests
+}

@@ -33,7 +33,7 @@ ready() { # NAME: proves and builds it unless it stands there, built by this kit
     crates=$(crates_of "$1")
     ! is_current || return 0
     mkdir -p "$root/target" 2>/dev/null && [ -w "$root/target" ] && [ -w "$root/crates.txt" ] ||
-        stop "$root: $1 has to be proved and built from the sources as they are, and you may not write this folder; have its owner run $root/bellkettle, or copy the folder"
+        stop "$root: $1 has to be proved and built from the sources as they are, and you may not write this folder; have its owner run this once, or copy the folder"
     need setsid util-linux
     need flock util-linux
     # A lock on a file that is there anyway, so that none is left; a build that outlives this script still holds it.

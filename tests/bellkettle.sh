@@ -10,6 +10,7 @@ need setpriv util-linux
 
 room=$(mktemp -d)
 trap 'rm -rf "$room"' EXIT
+trap 'exit 1' HUP INT TERM
 chmod 755 "$room"
 mkdir -m 1777 "$room/tmp"
 export TMPDIR="$room/tmp"
@@ -140,9 +141,9 @@ for tool in cat dirname env git head mktemp readlink rm sed sh uname; do
     ln -s "$(command -v "$tool")" "$room/kitless/$tool"
 done
 try 'no kit' env -u RATTLE_HOME PATH="$room/kitless" ./bellkettle report samples/radio.sheet
-fails 'kit not found: '
+fails 'kit not found: install the Rattle kit'
 try 'the version with no kit' env -u RATTLE_HOME PATH="$room/kitless" ./bellkettle --version
-ends 3 && says '^bellkettle: kit not found: ' && grep -q '^bellkettle [0-9]' "$room/out" || wrong 'the version expected'
+ends 3 && says '^bellkettle: kit not found: install the Rattle kit' && grep -q '^bellkettle [0-9]' "$room/out" || wrong 'the version expected'
 try 'a kit that is none' env RATTLE_HOME="$room" ./bellkettle report samples/radio.sheet
 fails "kit not found: $room has "
 

@@ -4,6 +4,7 @@ set -eu
 cd "$(dirname "$0")/.."
 room=$(mktemp -d)
 trap 'rm -rf "$room"' EXIT
+trap 'exit 1' HUP INT TERM
 
 expect() { # NAME EXPECTED [SHEET]: the report of the sheet, or of standard input
     name=$1 expected=$2 status=0

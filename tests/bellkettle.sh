@@ -152,7 +152,8 @@ fails "kit not found: $room has "
 mkdir "$room/plays"
 cat >"$room/plays/rt" <<'EOF'
 #!/bin/sh
-# What rt check does, as far as the launcher sees it. $PLAY is what is to happen.
+# rt version and rt check, as far as the launcher sees them. $PLAY is what is to happen.
+[ "$1" != version ] || { cat "$RATTLE_HOME/KIT-ID" && exit; }
 echo "$*" >>"$ROOM/started"
 echo left >"$TMPDIR/left"
 mkdir -p target/bin target/log target/obj target/rlib/lower.rlib target/rlib/report.rlib target/stamp
@@ -166,6 +167,12 @@ fails)
     exit 1
     ;;
 breaks) echo 'rt: crates.txt: line 1: expected NAME: DEP DEP ...' && exit 2 ;;
+differs)
+    cp "$PROGRAM" target/bin/report
+    echo 'rt: report proved (1 s)'
+    echo 'rt: report proved, and its run FAILED (1 s)'
+    exit 1
+    ;;
 HUP | INT | TERM)
     proved lower
     echo half >target/bin/report
@@ -206,6 +213,8 @@ fails 'nothing.sheet: there is no such file; ' && [ ! -e "$tree/target" ] && [ !
 try 'the first run' report
 ends 0 && prints samples/radio.report && started 1
 says '^bellkettle: proving and building report from 2 crates; ' && says '^bellkettle: lower is proved, 1 of 2$' && says '^bellkettle: report is proved, 2 of 2$'
+try 'the version where no repository is' "$tree/bellkettle" --version
+ends 0 && grep -qx 'commit unknown' "$room/out" || wrong 'an unknown commit expected'
 try 'the second run' report
 ends 0 && prints samples/radio.report && says_nothing && started 1
 find "$tree" -exec touch -d 2100-01-01 {} +
@@ -254,14 +263,17 @@ ends 1 && grep -q '^bellkettle: standard input: a sheet is awaited here' "$room/
 plant
 PLAY=fails
 try 'a crate that is not proved' report
-ends 3 && prints_nothing && says "^bellkettle: crate lower failed, so report is not built; $tree/target/log/lower.out has" && says '^fn lower::up: not proved$'
+ends 3 && prints_nothing && says "^bellkettle: crate lower is not proved, so report is not built; $tree/target/log/lower.out says why" && says '^fn lower::up: not proved$'
 [ "$(cd "$tree/target" && find . -type f)" = ./log/lower.out ] || wrong 'nothing but the log expected to be left'
 PLAY=breaks
 try 'a kit that fails' report
 ends 3 && prints_nothing && says "^bellkettle: 'rt check report' in $tree ended with status 2, and said" && says '^rt: crates.txt: line 1'
+PLAY=differs
+try 'a program that does not print what it must' report
+ends 3 && prints_nothing && says '^rt: report proved, and its run FAILED' && [ ! -e "$tree/target/bin" ] || wrong 'no program expected to be left'
 PLAY=succeeds
-try 'a run after one that failed' report
-ends 0 && prints samples/radio.report && started 3
+try 'a run after others that failed' report
+ends 0 && prints samples/radio.report && started 4
 
 for signal in HUP:129 INT:130 TERM:143; do
     plant

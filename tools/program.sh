@@ -12,7 +12,7 @@ clean() {
 ended_by() { # SIGNAL: cleans, and ends as the signal would have ended the script
     trap '' HUP INT TERM
     [ ! -t 2 ] || echo >&2
-    [ -z "$building" ] || say "interrupted with $shown of $total crates proved; nothing half built is left, and the next run proves the others"
+    [ -z "$building" ] || say "interrupted with $shown of $total crates proved; nothing half built stays, and the next run proves the others"
     clean
     trap - EXIT "$1"
     kill -s "$1" $$
@@ -33,17 +33,23 @@ ready() { # NAME: proves and builds it unless it stands there, built by this kit
     crates=$(crates_of "$1")
     ! is_current || return 0
     mkdir -p "$root/target" 2>/dev/null && [ -w "$root/target" ] && [ -w "$root/crates.txt" ] ||
-        stop "$root: $1 has to be proved and built from the sources as they are, and you may not write this folder; have its owner run this once, or copy the folder"
+        stop "$root: $1 has to be proved and built anew, and you may not write this folder; have its owner run this once, or copy the folder"
     need setsid util-linux
     need flock util-linux
     # A lock on a file that is there anyway, so that none is left; a build that outlives this script still holds it.
     exec 9>>"$root/crates.txt"
-    if ! flock -n 9; then
-        say "another run is building in $root; waiting for it to end"
-        until flock -n 9; do sleep 0.5; done
-    fi
+    waits=''
+    until take_lock; do
+        [ -n "$waits" ] || say "another run is building in $root; waiting for it to end"
+        waits=yes
+        sleep 0.5
+    done
     is_current || build "$1"
     exec 9>&-
+}
+
+take_lock() { # fails only while another has it: on a disk that knows no locks a build goes on without
+    flock -n -E 75 9 2>/dev/null || [ $? -ne 75 ]
 }
 
 crates_of() { # NAME: it and every crate of the repository that it needs
@@ -64,7 +70,7 @@ is_current() {
         cd "$root"
         {
             cat "$kit/KIT-ID" crates.txt
-            for crate in $crates; do find "crates/$crate" -type f \( -name '*.rt' -o -name '*.antt' \) -exec sha256sum {} +; done | sort
+            for crate in $crates; do find "crates/$crate" -type f \( -name '*.rt' -o -name '*.antt' \) -exec sha256sum {} + 2>/dev/null; done | sort
         } | sha256sum
     )
     [ -x "$program" ] && [ "$(cat "$record" 2>/dev/null)" = "$sum" ]
@@ -84,7 +90,7 @@ build() { # NAME
         sleep 0.3
     done
     progress
-    [ ! -t 2 ] || printf '\r%78s\r' '' >&2
+    [ ! -t 2 ] || printf '\r%60s\r' '' >&2
     wait "$child" || not_built "$1" $?
     building=''
     mkdir -p "$root/target/built"
@@ -93,7 +99,7 @@ build() { # NAME
     say "$1 is proved and built, in $(($(date +%s) - began)) s"
 }
 
-progress() { # how far a build is: a line for each crate that has been proved since the last call, or on a terminal one line that moves
+progress() { # how far a build is: a line for each crate that was proved since the last call, on a terminal one line that moves
     count=0
     for crate in $(sed -n 's/^rt: \([a-z0-9_]*\) proved (.*/\1/p' "$yard/said"); do
         count=$((count + 1))
@@ -104,9 +110,9 @@ progress() { # how far a build is: a line for each crate that has been proved si
 }
 
 not_built() { # NAME STATUS: says which crate failed, and where to read on
-    failed=$(sed -n -e 's/^rt: \([a-z0-9_]*\) NOT PROVED.*/\1/p' -e 's/^rt: \([a-z0-9_]*\) proved, and its run FAILED.*/\1/p' "$yard/said" | head -n 1)
+    failed=$(sed -n 's/^rt: \([a-z0-9_]*\) NOT PROVED.*/\1/p' "$yard/said" | head -n 1)
     if [ -n "$failed" ]; then
-        say "crate $failed failed, so $1 is not built; $root/target/log/$failed.out has the whole of it, and ends"
+        say "crate $failed is not proved, so $1 is not built; $root/target/log/$failed.out says why, and ends"
         tail -n 8 "$root/target/log/$failed.out"
     else
         say "'rt check $1' in $root ended with status $2, and said at last"
@@ -115,7 +121,8 @@ not_built() { # NAME STATUS: says which crate failed, and where to read on
     exit 3
 }
 
-abandon() { # ends a build that has not ended well: no process of it goes on, and of its crates that are not proved only the log of the one that failed stays
+# Ends a build that has not ended well. No process of it goes on; of crates that are not proved only the log of one that failed stays.
+abandon() {
     kill -s TERM -- "-$child" 2>/dev/null || true
     for moment in 1 2 3 4 5 6 7 8 9; do
         kill -0 -- "-$child" 2>/dev/null || break

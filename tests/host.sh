@@ -5,7 +5,7 @@ cd "$(dirname "$0")/.."
 room=$(mktemp -d)
 trap 'rm -rf "$room"' EXIT
 
-. tools/kit.sh
+. tools/packages.sh
 need_compiler
 rt staticlib bellkettle >"$room/library" 2>&1 || { cat "$room/library" && exit 1; }
 "$compiler" -std=c11 -Wall -Wextra -Wconversion -Werror -O2 -static -Iinclude tests/host.c target/staticlib/libbellkettle.a -o "$room/host"

@@ -1,0 +1,313 @@
+#!/bin/sh
+# The launcher as people meet it: what it explains, every exit status, refusals in words, and the first run. The first run is tried on
+# small trees with a kit that proves nothing and plays what a kit can do: succeed, fail, be interrupted.
+set -eu
+cd "$(dirname "$0")/.."
+here=$(pwd -P)
+. tools/packages.sh
+need script bsdutils
+need setpriv util-linux
+
+room=$(mktemp -d)
+trap 'rm -rf "$room"' EXIT
+trap 'exit 1' HUP INT TERM
+chmod 755 "$room"
+mkdir -m 1777 "$room/tmp"
+export TMPDIR="$room/tmp"
+tried=0
+
+wrong() {
+    echo "tests/bellkettle.sh: $what: $*"
+    printf 'status %s, standard output:\n' "$status" && cat "$room/out"
+    echo 'standard error:' && cat "$room/err"
+    exit 1
+}
+
+try() { # WHAT COMMAND..: its output, messages and status are kept
+    what=$1 status=0
+    shift
+    "$@" >"$room/out" 2>"$room/err" || status=$?
+    tried=$((tried + 1))
+}
+ends() { [ "$status" -eq "$1" ] || wrong "status $1 expected"; }
+prints() { cmp -s "$room/out" "$1" || wrong "the output of $1 expected"; }
+prints_nothing() { [ ! -s "$room/out" ] || wrong 'no output expected'; }
+says() { grep -q -- "$1" "$room/err" || wrong "the message '$1' expected"; }
+says_nothing() { [ ! -s "$room/err" ] || wrong 'no message expected'; }
+refuses_use() { # MESSAGE
+    ends 2 && prints_nothing && says "^bellkettle: $1" && says "'bellkettle help"
+}
+fails() { # MESSAGE: one line that begins so
+    ends 3 && prints_nothing && says "^bellkettle: $1"
+    [ "$(wc -l <"$room/err")" -eq 1 ] || wrong 'one line expected'
+}
+leaves_nothing() { [ -z "$(ls -A "$TMPDIR")" ] || wrong "left behind: $(ls -A "$TMPDIR")"; }
+
+# What is explained
+
+./bellkettle report samples/radio.sheet >/dev/null 2>&1 # the program stands there from here on
+try 'no command' ./bellkettle
+ends 0 && says_nothing && cp "$room/out" "$room/all"
+for command in tools/commands/*; do
+    command=${command##*/}
+    grep -q "^    $command " "$room/all" || wrong "$command expected among the commands"
+    try "help $command" ./bellkettle help "$command"
+    ends 0 && says_nothing && cp "$room/out" "$room/one"
+    grep -q "^bellkettle $command " "$room/one" || wrong "the use of $command expected"
+    try "$command --help" ./bellkettle "$command" --help
+    ends 0 && says_nothing && prints "$room/one"
+done
+for word in help --help -h; do
+    try "$word" ./bellkettle "$word"
+    ends 0 && says_nothing && prints "$room/all"
+done
+try '--version' ./bellkettle --version
+ends 0 && says_nothing
+[ "$(grep -c . "$room/out")" -eq 3 ] && grep -q '^bellkettle [0-9]' "$room/out" || wrong 'three lines expected, the first with the version'
+grep -qx "kit $(rt version)" "$room/out" || wrong 'the identity of the kit expected'
+if [ -e .git ]; then grep -q "^commit $(git rev-parse HEAD)" "$room/out" || wrong 'the commit expected'; fi
+
+# Wrong use
+
+try 'no such command' ./bellkettle reprot samples/radio.sheet
+refuses_use "there is no command 'reprot'"
+try 'a path for a command' ./bellkettle ../run report
+refuses_use "there is no command '../run'"
+try 'help for no command' ./bellkettle help reprot
+refuses_use "there is no command 'reprot'"
+try 'no such option' ./bellkettle --reprot
+refuses_use "there is no option '--reprot'"
+try 'an option that report does not have' ./bellkettle report --verbose
+refuses_use "report has no option '--verbose'"
+try 'two sheets' ./bellkettle report samples/radio.sheet samples/trio.sheet
+refuses_use 'report takes one sheet, and 2 were given'
+try 'version of something' ./bellkettle --version report
+refuses_use '--version takes nothing more'
+
+# An answer, and refusals in words
+
+try 'a sheet' ./bellkettle report samples/radio.sheet
+ends 0 && says_nothing && prints samples/radio.report
+try 'a sheet on standard input' sh -c './bellkettle report <samples/radio.sheet'
+ends 0 && says_nothing && prints samples/radio.report
+
+sed -n '/^## Refusals/,/^## [^R]/p' README.md | grep '^| [0-9]' >"$room/table"
+cmp "$room/table" tools/refusals.txt || { echo 'tests/bellkettle.sh: the refusals of README.md and tools/refusals.txt are not the same' && exit 1; }
+while IFS='|' read -r _ number because remedy _; do
+    number=${number# } because=${because# } remedy=${remedy# }
+    number=${number% } because=${because% } remedy=${remedy% }
+    for sheet in samples/refused-"$number"-*.sheet; do
+        try "$sheet" ./bellkettle report "$sheet"
+        ends 1 && prints "${sheet%.sheet}.report"
+        value=$(sed -n 's/.* task //p' "$room/out")
+        [ "$(cat "$room/err")" = "bellkettle: $sheet: $(echo "$because" | sed "s/task i /task $value /"); $remedy" ] || wrong 'the sentence of the table expected'
+    done
+done <tools/refusals.txt
+try 'a late task' ./bellkettle report samples/refused-15-late.sheet
+says '^bellkettle: samples/refused-15-late.sheet: task 1 is late: '
+try 'no bytes' sh -c './bellkettle report </dev/null'
+ends 1 && prints samples/refused-1-empty.report && says '^bellkettle: standard input: the bytes end inside a field; '
+try 'bytes without an end' ./bellkettle report /dev/zero
+ends 1 && prints samples/refused-2-count.report
+
+# Something outside went wrong
+
+try 'no such file' ./bellkettle report samples/nothing.sheet
+fails 'samples/nothing.sheet: there is no such file; '
+try 'a folder' ./bellkettle report samples
+fails 'samples: this is a folder; '
+try 'a folder on standard input' sh -c './bellkettle report <samples'
+fails 'standard input: it cannot be read (Is a directory); '
+try 'a closed input' sh -c './bellkettle report <&-'
+fails 'standard input: it is closed; '
+try 'an input that is only written' sh -c './bellkettle report 0>/dev/null'
+fails 'standard input: it cannot be read ('
+for words in 'report samples/radio.sheet' 'report samples/refused-2-count.sheet' --help 'help report' --version; do
+    try "$words, to a full disk" sh -c "./bellkettle $words >/dev/full"
+    fails 'standard output: not all could be written there; '
+    try "$words, to a closed output" sh -c "./bellkettle $words >&-"
+    fails 'standard output: it is closed; '
+done
+try 'messages to a full disk' sh -c './bellkettle report samples/refused-2-count.sheet 2>/dev/full'
+ends 1 && prints samples/refused-2-count.report
+try 'closed messages' sh -c './bellkettle report samples/refused-2-count.sheet 2>&-'
+ends 1 && prints samples/refused-2-count.report
+try 'no temporary folder' env TMPDIR="$room/nowhere" ./bellkettle report samples/radio.sheet
+fails "$room/nowhere: no temporary folder can be made there; "
+
+# A path with the usual commands and no kit.
+mkdir "$room/kitless"
+for tool in cat dirname env git head mktemp readlink rm sed sh uname; do
+    ln -s "$(command -v "$tool")" "$room/kitless/$tool"
+done
+try 'no kit' env -u RATTLE_HOME PATH="$room/kitless" ./bellkettle report samples/radio.sheet
+fails 'kit not found: install the Rattle kit'
+try 'the version with no kit' env -u RATTLE_HOME PATH="$room/kitless" ./bellkettle --version
+ends 3 && says '^bellkettle: kit not found: install the Rattle kit' && grep -q '^bellkettle [0-9]' "$room/out" || wrong 'the version expected'
+try 'a kit that is none' env RATTLE_HOME="$room" ./bellkettle report samples/radio.sheet
+fails "kit not found: $room has "
+
+# The first run. A tree has two crates, and its name spaces. The kit that plays keeps a line for each time it was started.
+
+mkdir "$room/plays"
+cat >"$room/plays/rt" <<'EOF'
+#!/bin/sh
+# rt version and rt check, as far as the launcher sees them. $PLAY is what is to happen.
+[ "$1" != version ] || { cat "$RATTLE_HOME/KIT-ID" && exit; }
+echo "$*" >>"$ROOM/started"
+echo left >"$TMPDIR/left"
+mkdir -p target/bin target/log target/obj target/rlib/lower.rlib target/rlib/report.rlib target/stamp
+rm -f target/stamp/report
+proved() { echo "$1" >"target/log/$1.out" && echo stamp >"target/stamp/$1" && echo "rt: $1 proved (1 s)"; }
+case $PLAY in
+fails)
+    echo 'fn lower::up: not proved' | tee target/log/lower.out
+    echo 'rt: lower NOT PROVED (exit 1, 1 s)'
+    echo 'rt: report NOT PROVED: its dependency lower is not proved'
+    exit 1
+    ;;
+breaks) echo 'rt: crates.txt: line 1: expected NAME: DEP DEP ...' && exit 2 ;;
+differs)
+    cp "$PROGRAM" target/bin/report
+    echo 'rt: report proved (1 s)'
+    echo 'rt: report proved, and its run FAILED (1 s)'
+    exit 1
+    ;;
+HUP | INT | TERM)
+    proved lower
+    echo half >target/bin/report
+    sleep 100 &
+    echo $! >"$ROOM/sleeper"
+    kill -s "$PLAY" "$PPID"
+    wait
+    ;;
+esac
+proved lower
+sleep "${SECONDS_TAKEN:-0}"
+cp "$PROGRAM" target/bin/report
+proved report
+EOF
+chmod +x "$room/plays/rt"
+export ROOM="$room" PROGRAM="$here/target/bin/report" RATTLE_HOME="$kit" PATH="$room/plays:$PATH" PLAY=succeeds
+
+tree="$room/a tree"
+plant() { # a tree that was never built
+    rm -rf "$tree" "$room/started"
+    mkdir -p "$tree/crates/lower/src" "$tree/crates/report/src"
+    cp -R bellkettle tools samples "$tree"
+    printf 'lower: # nothing\nreport: lower io libc\nother: lower\n' >"$tree/crates.txt"
+    echo 'pub fn up() {}' >"$tree/crates/lower/src/lib.rt"
+    echo 'fn main() {}' >"$tree/crates/report/src/main.rt"
+}
+started() { # TIMES
+    [ "$(grep -c '^check report$' "$room/started" 2>/dev/null)" -eq "$1" ] || wrong "rt expected to be started $1 times"
+}
+report() { "$tree/bellkettle" report "$tree/samples/radio.sheet"; }
+runs() { # PROCESS: one that has ended may still wait to be reaped
+    [ -e "/proc/$1" ] && ! grep -q '^State:[[:space:]]*Z' "/proc/$1/status"
+}
+
+plant
+try 'no such file, before anything is built' "$tree/bellkettle" report nothing.sheet
+fails 'nothing.sheet: there is no such file; ' && [ ! -e "$tree/target" ] && [ ! -e "$room/started" ] || wrong 'nothing expected to be built'
+try 'the first run' report
+ends 0 && prints samples/radio.report && started 1
+says '^bellkettle: proving and building report from 2 crates; ' && says '^bellkettle: lower is proved, 1 of 2$' && says '^bellkettle: report is proved, 2 of 2$'
+try 'the version where no repository is' "$tree/bellkettle" --version
+ends 0 && grep -qx 'commit unknown' "$room/out" || wrong 'an unknown commit expected'
+try 'the second run' report
+ends 0 && prints samples/radio.report && says_nothing && started 1
+find "$tree" -exec touch -d 2100-01-01 {} +
+try 'sources with a later time' report
+ends 0 && says_nothing && started 1
+echo 'pub fn down() {}' >"$tree/crates/lower/src/lib.rt"
+touch -d 2000-01-01 "$tree/crates/lower/src/lib.rt"
+try 'another source with an earlier time' report
+ends 0 && prints samples/radio.report && started 2
+
+mkdir -p "$room/other place"
+cp samples/radio.sheet "$room/other place/my sheet"
+ln -s "$tree/bellkettle" "$room/other place/link"
+ln -s "link" "$room/other place/link to a link"
+try 'from another folder, through links' sh -c 'cd "$1" && ./"link to a link" report "my sheet"' sh "$room/other place"
+ends 0 && prints samples/radio.report && says_nothing
+try 'over the path' sh -c 'cd "$1" && PATH="$1:$PATH" && link report "my sheet"' sh "$room/other place"
+ends 0 && prints samples/radio.report && says_nothing
+cp samples/radio.sheet "$room/other place/--help"
+try 'a sheet named as an option' sh -c 'cd "$1" && ./link report -- --help' sh "$room/other place"
+ends 0 && prints samples/radio.report && says_nothing
+
+# Somebody who may read the tree and not write it.
+reader() { if [ "$(id -u)" -eq 0 ]; then setpriv --reuid=65534 --regid=65534 --clear-groups "$@"; else "$@"; fi; }
+chmod -R a-w "$tree"
+try 'a reader' reader "$tree/bellkettle" report samples/radio.sheet
+ends 0 && prints samples/radio.report && says_nothing
+cp samples/radio.sheet "$room/secret" && chmod 0 "$room/secret"
+try 'a sheet that may not be read' reader "$tree/bellkettle" report "$room/secret"
+fails "$room/secret: you may not read this file; "
+chmod -R u+w "$tree"
+echo 'pub fn up() {}' >"$tree/crates/lower/src/lib.rt"
+chmod -R a-w "$tree"
+try 'a reader of other sources' reader "$tree/bellkettle" report samples/radio.sheet
+fails "$tree: report has to be proved and built" && started 2
+chmod -R u+w "$tree"
+
+plant
+try 'a terminal' script -qec "'$tree/bellkettle' report samples/radio.sheet" /dev/null </dev/null
+ends 0 && started 1
+tr '\r' '\n' <"$room/out" >"$room/lines"
+grep -q '^bellkettle: [0-9] of 2 crates proved, [0-9]* s' "$room/lines" && ! grep -q 'is proved, ' "$room/lines" && grep -q '^margin 980$' "$room/lines" || wrong 'a line that moves expected, and the report'
+try 'a sheet typed at a terminal' sh -c 'printf "\004" | script -qec "./bellkettle report" /dev/null'
+ends 1 && grep -q '^bellkettle: standard input: a sheet is awaited here' "$room/out" && grep -q '^refused 1' "$room/out" || wrong 'to be told that a sheet is awaited'
+
+plant
+PLAY=fails
+try 'a crate that is not proved' report
+ends 3 && prints_nothing && says "^bellkettle: crate lower is not proved, so report is not built; $tree/target/log/lower.out says why" && says '^fn lower::up: not proved$'
+[ "$(cd "$tree/target" && find . -type f)" = ./log/lower.out ] || wrong 'nothing but the log expected to be left'
+PLAY=breaks
+try 'a kit that fails' report
+ends 3 && prints_nothing && says "^bellkettle: 'rt check report' in $tree ended with status 2, and said" && says '^rt: crates.txt: line 1'
+PLAY=differs
+try 'a program that does not print what it must' report
+ends 3 && prints_nothing && says '^rt: report proved, and its run FAILED' && [ ! -e "$tree/target/bin" ] || wrong 'no program expected to be left'
+PLAY=succeeds
+try 'a run after others that failed' report
+ends 0 && prints samples/radio.report && started 4
+
+for signal in HUP:129 INT:130 TERM:143; do
+    plant
+    PLAY=${signal%:*}
+    try "a build interrupted by $PLAY" report
+    ends "${signal#*:}" && prints_nothing && says '^bellkettle: interrupted with [01] of 2 crates proved; '
+    ! runs "$(cat "$room/sleeper")" || wrong 'every process of the build expected to have ended'
+    [ ! -e "$tree/target/bin" ] && [ ! -e "$tree/target/rlib/report.rlib" ] && [ -d "$tree/target/rlib/lower.rlib" ] || wrong 'no half-built program expected, and the proved crate'
+    leaves_nothing
+    PLAY=succeeds
+    try "a run after $signal" report
+    ends 0 && prints samples/radio.report
+done
+
+plant
+export SECONDS_TAKEN=2
+report >"$room/first" 2>&1 &
+try 'two first runs at once' report
+ends 0 && prints samples/radio.report
+wait $!
+cmp -s samples/radio.report - <<EOF || wrong "the other run printed $(cat "$room/first")"
+$(grep -v '^bellkettle: ' "$room/first")
+EOF
+started 1
+cat "$room/first" "$room/err" | grep -q '^bellkettle: another run is building in ' || wrong 'one of the runs expected to wait'
+
+echo 'not a program' >"$tree/target/bin/report"
+try 'a program that does not run' report
+fails "$tree/target/bin/report: this program did not answer ("
+leaves_nothing
+
+# Packages are installed for the gate and the tests, by nothing else.
+for script in bellkettle tools/kit.sh tools/program.sh tools/run tools/commands/* bench/run; do
+    ! grep 'apt-get\|packages\.sh' "$script" || { echo "tests/bellkettle.sh: $script installs packages" && exit 1; }
+done
+
+echo "bellkettle: $tried uses as they should be"

@@ -1,7 +1,7 @@
 -- Demand 3 in the words of the calls: what an answer says of every schedule of the sheet's tasks, whatever the demands of 1 to C.
 use mathlib.Core.Path.{_≡_, sym, ap, _∙_, subst}
 use mathlib.Core.List.{List}
-use Prim.Native.Nat.{ℕ, zero, suc, _+_, _-_, _*_, _/_, _%_, _≤_, _<_}
+use Prim.Native.Nat.{ℕ, _+_, _/_, _%_, _≤_, _<_}
 use native.Mathlib.Nat.{le-refl, div-add-mod'}
 use native.Mathlib.Omega.{arith}
 use lib.IntN.{ℤ, pos}
@@ -11,7 +11,7 @@ use Rattle.theory.specs.Model.Schedule.{period, release, Demands, Within, Run, 
 use Rattle.theory.specs.Model.Responses.{full, response, hyperperiod}
 use Rattle.theory.specs.Analysis.Repetition.{response-again}
 use Rattle.theory.specs.Model.Chain.{delay, worst, bound, PathEnds, Rising}
-use Rattle.theory.specs.Analysis.ChainLaws.{delay-again}
+use Rattle.theory.specs.Analysis.ChainLaws.{delay-turns}
 use Rattle.theory.specs.Analysis.Paths.{path-within, path-exists, path-exact}
 use Rattle.theory.specs.Results.Demand3 as demand
 use Rattle.theory.specs.Results.Demand3.{GreatestDelay}
@@ -83,17 +83,10 @@ module _ {ts : List Task} {chain : List ℕ} (taken : TakenChain ts chain) where
   path-worst {d} within {run} schedule k =
       let x = demand.no-schedule-exceeds ts (taken .tasks .accepted) p rest (taken .known) d within run schedule k in record { exists = x .0; ends = x .1 }
 
-  -- Delays repeat with H.
-  delay-turns : (r m : ℕ) → delay ts (response ts) p rest (r + m * hyperperiod ts) ≡ delay ts (response ts) p rest r
-  delay-turns r zero = ap (delay ts (response ts) p rest) (omega arith)
-  delay-turns r (suc m) =
-      ap (delay ts (response ts) p rest) (omega arith)
-      ∙ delay-again (taken .tasks .accepted .proper) (response ts) (λ i k l. response-again (taken .tasks .accepted) i l k) p rest (r + m * hyperperiod ts) (taken .known)
-      ∙ delay-turns r m
-
   delay-modulo : (r at : ℕ) → r % hyperperiod ts ≡ at → delay ts (response ts) p rest r ≡ delay ts (response ts) p rest at
   delay-modulo r at e =
-      ap (delay ts (response ts) p rest) (omega (arith, div-add-mod' r (hyperperiod ts))) ∙ delay-turns at (r / hyperperiod ts)
+      ap (delay ts (response ts) p rest) (omega (arith, div-add-mod' r (hyperperiod ts)))
+      ∙ delay-turns (taken .tasks .accepted .proper) (response ts) (λ i k l. response-again (taken .tasks .accepted) i l k) p rest at (r / hyperperiod ts) (taken .known)
 
 -- ---- `worst`
 

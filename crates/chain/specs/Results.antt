@@ -11,6 +11,7 @@ use Rattle.theory.specs.Model.Schedule.{period, release, Demands, Within, Run, 
 use Rattle.theory.specs.Model.Responses.{full, response, hyperperiod}
 use Rattle.theory.specs.Analysis.Repetition.{response-again}
 use Rattle.theory.specs.Model.Chain.{delay, worst, bound, PathEnds, Rising}
+use Rattle.theory.specs.Model.Readings.{Arrives}
 use Rattle.theory.specs.Analysis.ChainLaws.{delay-turns}
 use Rattle.theory.specs.Analysis.Paths.{path-within, path-exists, path-exact}
 use Rattle.theory.specs.Results.Demand3 as demand
@@ -57,6 +58,10 @@ pub record PathWithin (ts : List Task) (chain : List ℕ) (d : Demands) (run : R
   pub exists : (f : ℕ) × ChainPath chain d run k f
   pub ends : (f : ℕ) → ChainPath chain d run k f → f ≤ firstRelease ts chain k + ticks
 
+-- In a run the reading of job k of a chain's first task, or a newer one, arrives at the chain's end at f.
+abbrev pub ReadingArrives : List ℕ → Demands → Run → ℕ → ℕ → Type 0
+ReadingArrives chain d run k f = Arrives d run (firstOf chain) (restOf chain) k f
+
 -- Each task on a chain outranks the one before it.
 abbrev pub RanksRise : List Task → List ℕ → Type 0
 RanksRise ts chain = Rising ts (firstOf chain) (restOf chain)
@@ -98,6 +103,17 @@ pub no-schedule-exceeds-worst :
     → PathWithin (tasksOf s) (chainOf s) d run k w
 no-schedule-exceeds-worst s room w r answer d within run schedule k =
     let g = worst-given s room answer in subst (PathWithin (tasksOf s) (chainOf s) d run k) (ap (λ f. f .ticks) (g .1)) (path-worst (g .0) within schedule k)
+
+-- No reading is late, unless a newer one is in its place. If `worst` answers w, then for all demands of 1 to C, every run that is a schedule
+-- for them and every job of the chain's first task its reading or a newer one arrives, no later than w after the job's release.
+pub reading-arrives-within-worst :
+    (s : Sheet) (room w r : ℕ) (answer : WorstAnswers s room w r)
+    (d : Demands) (within : Within (tasksOf s) d) (run : Run) (schedule : Schedule (tasksOf s) d run) (k : ℕ)
+    → (f : ℕ) × ReadingArrives (chainOf s) d run k f × (f ≤ firstRelease (tasksOf s) (chainOf s) k + w)
+reading-arrives-within-worst s room w r answer d within run schedule k =
+    let g = worst-given s room answer in
+    let x = demand.reading-arrives (tasksOf s) (g .0 .tasks .accepted) (firstOf (chainOf s)) (restOf (chainOf s)) (g .0 .known) d within run schedule k in
+    (x .0, x .1, omega (arith, x .2, ap (λ f. f .ticks) (g .1)))
 
 -- The figure never exceeds what `bound` answers.
 pub worst-within-bound :

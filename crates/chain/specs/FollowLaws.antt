@@ -9,12 +9,12 @@ use Rattle.chain.specs.Conditions.{delayIn, FirstHandedOver}
 use Rattle.chain.specs.GreatestLaws.{GreatestTo, greatest-none, greatest-new, greatest-kept}
 use Rattle.chain.specs.WalkLaws.{handed-together}
 
-module _ (periods ranks starts counts table chain rest : List ℕ) where
+module _ (plan table chain rest : List ℕ) where
   abbrev delays : ℕ → ℕ
-  delays = delayIn periods ranks starts counts table chain
+  delays = delayIn plan table chain
 
   abbrev HandedOn : ℕ → HandOver → Type 0
-  HandedOn = FirstHandedOver periods ranks starts counts table chain rest
+  HandedOn = FirstHandedOver plan table chain rest
 
   -- Of the first k readings the longest delay is `ticks`, first that of job `at`; none that is still to come and goes to the job
   -- before `followed` takes longer.

@@ -26,8 +26,7 @@ ghost use Rattle.sheet.specs.Tasks.{tasksOf, chainOf, firstOf};
 ghost use Rattle.schedule.specs.Calls.{mostTicks};
 ghost use Rattle.chain.specs.Calls.{delayAt, figureOf, quickBound, less, mostLimit};
 ghost use Rattle.chain.specs.Promises.{DelayPromise, WorstPromise, BoundPromise, MarginPromise, DefaultMarginPromise, FiguresPromise, DelayRefusalPromise, WorstRefusalPromise, BoundRefusalPromise, MarginRefusalPromise, FiguresRefusalPromise};
-ghost use Rattle.schedule.specs.Taken.{Taken};
-ghost use Rattle.schedule.specs.Taken.{Holds};
+ghost use Rattle.schedule.specs.Taken.{Taken, Holds};
 ghost use Rattle.chain.specs.Conditions.{mostWait, mostFigure, mostRelease, periodIn, countIn, rowsIn, greatestIn, delayIn, boundIn, pairIn, onward, ahead, HandedOver, FirstHandedOver, RowIn, TaskIn, ChainIn, Greatest, Planned};
 
 // "margin limit 0 to 4,000,000"

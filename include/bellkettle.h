@@ -1,5 +1,6 @@
 /*
- * Bellkettle for programs in C: how long a reading takes from the release of its sampling job to the end of the chain.
+ * Bellkettle for programs in C: how long a path along the chain takes, from the release of its sampling job to the stamp that carries the
+ * reading of that job or a newer one.
  *
  * Link libbellkettle.a (x86-64 Linux), which `rt staticlib bellkettle` writes. Every function below is proved to answer what the
  * firm's page "From sheet to worst delay: the rules" (document 01) says, for every input, and to end. The library allocates nothing,

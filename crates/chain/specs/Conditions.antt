@@ -3,17 +3,16 @@ use mathlib.Core.Path.{_≡_}
 use mathlib.Core.Bool.{cond}
 use mathlib.Core.List.{List}
 use Prim.Native.Nat.{ℕ, _+_, _-_, _*_, _%_, _≤_, _<_}
-use lib.Dec.{eqb}
+use lib.Dec.{ltb, eqb}
 use lib.ListN.{length, getD, drop}
-use Rattle.arith.specs.Whole.{up}
-use Rattle.bits.specs.Bits.{listOf}
+use Rattle.arith.specs.Whole.{gcd, up}
 use Rattle.theory.specs.declared.Task.{Task}
 use Rattle.arith.specs.Ranges.{sum, maximum, least}
-use Rattle.theory.specs.Model.Schedule.{period, release, rank}
+use Rattle.theory.specs.Model.Schedule.{period, rank}
 use Rattle.theory.specs.Model.Responses.{jobs}
-use Rattle.theory.specs.Model.Chain.{Chain, outranks, Table, nextRelease, delay, common}
+use Rattle.theory.specs.Model.Chain.{Chain, Waits, Table, walkNext, walkDelay, walkBound}
 use Rattle.sheet.specs.Tasks.{firstOf, restOf}
-use Rattle.schedule.specs.Calls.{mostJobs, rows}
+use Rattle.schedule.specs.Calls.{mostJobs}
 use Rattle.schedule.specs.Taken.{Taken}
 use Rattle.chain.specs.declared.answer.Figure.{Figure}
 use Rattle.chain.specs.declared.answer.HandOver.{HandOver}
@@ -42,29 +41,55 @@ pub record TakenChain (ts : List Task) (chain : List ℕ) : Type 0 where
   pub known : Chain ts (firstOf chain) (restOf chain)
   pub few : length chain ≤ 16
 
--- ---- what the walk reads: by task, the period, the rank, where its row starts and how many jobs it has
+-- What a pair of neighbours adds to its quick bound.
+abbrev pub pairBound : (ℕ → ℕ) → Waits → (ℕ → ℕ) → ℕ → ℕ → ℕ
+pairBound T waits R p c = (T c - gcd (T p) (T c)) + cond (waits p c) (up (gcd (T p) (T c)) (R p)) 0
 
--- The tasks of these periods and ranks; a walk asks for no budget.
-unfoldable pub tasksIn : List ℕ → List ℕ → List Task
-tasksIn periods ranks = listOf 16 (λ i. record { period = getD periods i 0; budget = 0; rank = getD ranks i 0 })
+-- ---- the plan that the walk reads: of task i its period, its rank, where its row starts and how many jobs it has
+
+abbrev pub periodIn : List ℕ → ℕ → ℕ
+periodIn plan i = getD plan (4 * i) 0
+
+abbrev pub rankIn : List ℕ → ℕ → ℕ
+rankIn plan i = getD plan (4 * i + 1) 0
+
+abbrev pub startIn : List ℕ → ℕ → ℕ
+startIn plan i = getD plan (4 * i + 2) 0
+
+abbrev pub countIn : List ℕ → ℕ → ℕ
+countIn plan i = getD plan (4 * i + 3) 0
+
+-- "c outranks p"
+abbrev pub waitsIn : List ℕ → Waits
+waitsIn plan p c = ltb (rankIn plan p) (rankIn plan c)
 
 -- The responses in these rows, "of the job released at its release modulo H".
-abbrev pub rowsIn : List ℕ → List ℕ → List ℕ → Table
-rowsIn starts counts table i k = getD table (getD starts i 0 + k % getD counts i 0) 0
+abbrev pub rowsIn : List ℕ → List ℕ → Table
+rowsIn plan table i k = getD table (startIn plan i + k % countIn plan i) 0
 
 -- "the greatest response of its jobs released in 0 to H − 1"
-abbrev pub greatestIn : List ℕ → List ℕ → List ℕ → ℕ → ℕ
-greatestIn starts counts table i = maximum (getD counts i 0) (rowsIn starts counts table i)
+abbrev pub greatestIn : List ℕ → List ℕ → ℕ → ℕ
+greatestIn plan table i = maximum (countIn plan i) (rowsIn plan table i)
+
+-- The next release of c after that of job k of p.
+abbrev pub nextIn : List ℕ → List ℕ → ℕ → ℕ → ℕ → ℕ
+nextIn plan table p c k = walkNext (periodIn plan) (waitsIn plan) (rowsIn plan table) p c (k * periodIn plan p)
 
 -- The delay of a chain at job k of its first task.
-abbrev pub delayIn : List ℕ → List ℕ → List ℕ → List ℕ → List ℕ → List ℕ → ℕ → ℕ
-delayIn periods ranks starts counts table chain k =
-    delay (tasksIn periods ranks) (rowsIn starts counts table) (firstOf chain) (restOf chain) (release (tasksIn periods ranks) (firstOf chain) k)
+abbrev pub delayIn : List ℕ → List ℕ → List ℕ → ℕ → ℕ
+delayIn plan table chain k = walkDelay (periodIn plan) (waitsIn plan) (rowsIn plan table) (firstOf chain) (restOf chain) (k * periodIn plan (firstOf chain))
 
--- From job k of p a reading goes to the job of c at the next release.
-pub record HandedOver (ts : List Task) (table : Table) (p c k : ℕ) (next : HandOver) : Type 0 where
-  pub job-is : release ts c (next .job) ≡ nextRelease ts table p c (release ts p k)
-  pub wait-is : next .wait ≡ nextRelease ts table p c (release ts p k) - release ts p k
+-- What a pair adds to the quick bound, and the bound of a chain.
+abbrev pub pairIn : List ℕ → List ℕ → ℕ → ℕ → ℕ
+pairIn plan table = pairBound (periodIn plan) (waitsIn plan) (greatestIn plan table)
+
+abbrev pub boundIn : List ℕ → List ℕ → List ℕ → ℕ
+boundIn plan table chain = walkBound (periodIn plan) (waitsIn plan) (greatestIn plan table) (firstOf chain) (restOf chain)
+
+-- From job k of p a path goes to the job of c at the next release.
+pub record HandedOver (plan table : List ℕ) (p c k : ℕ) (next : HandOver) : Type 0 where
+  pub job-is : next .job * periodIn plan c ≡ nextIn plan table p c k
+  pub wait-is : next .wait ≡ nextIn plan table p c k - k * periodIn plan p
 
 -- How much of a chain the first hand-over leaves behind, and what is left.
 abbrev pub onward : List ℕ → ℕ
@@ -73,48 +98,40 @@ onward chain = cond (eqb (length chain) 1) 0 1
 abbrev pub ahead : List ℕ → List ℕ
 ahead chain = drop (onward chain) chain
 
--- The first hand-over of the reading of job k of a chain's first task, after which `rest` is left of the chain.
-pub record FirstHandedOver (periods ranks starts counts table chain rest : List ℕ) (k : ℕ) (next : HandOver) : Type 0 where
-  pub delay-is : delayIn periods ranks starts counts table chain k ≡ next .wait + delayIn periods ranks starts counts table rest (next .job)
-  pub meets : release (tasksIn periods ranks) (firstOf chain) k + next .wait ≡ release (tasksIn periods ranks) (firstOf rest) (next .job)
+-- The first hand-over of the path from job k of a chain's first task, after which `rest` is left of the chain.
+pub record FirstHandedOver (plan table chain rest : List ℕ) (k : ℕ) (next : HandOver) : Type 0 where
+  pub delay-is : delayIn plan table chain k ≡ next .wait + delayIn plan table rest (next .job)
+  pub meets : k * periodIn plan (firstOf chain) + next .wait ≡ next .job * periodIn plan (firstOf rest)
   pub near : next .wait ≤ mostWait
 
 -- The row of task i is in the table, and no response in it is over the longest period.
-pub record RowIn (starts counts table : List ℕ) (i : ℕ) : Type 0 where
+pub record RowIn (plan table : List ℕ) (i : ℕ) : Type 0 where
   pub known : i < 16
-  pub some : 0 < getD counts i 0
-  pub few : getD starts i 0 + getD counts i 0 ≤ mostJobs
-  pub within : getD starts i 0 + getD counts i 0 ≤ length table
-  pub response-most : (k : ℕ) → k < getD counts i 0 → getD table (getD starts i 0 + k) 0 ≤ mostPeriod
+  pub some : 0 < countIn plan i
+  pub few : startIn plan i + countIn plan i ≤ mostJobs
+  pub within : startIn plan i + countIn plan i ≤ length table
+  pub response-most : (k : ℕ) → k < countIn plan i → getD table (startIn plan i + k) 0 ≤ mostPeriod
 
 -- Its period is within its limits too.
-pub record TaskIn (periods starts counts table : List ℕ) (i : ℕ) : Type 0 where
-  pub period-positive : 0 < getD periods i 0
-  pub period-most : getD periods i 0 ≤ mostPeriod
-  pub row : RowIn starts counts table i
+pub record TaskIn (plan table : List ℕ) (i : ℕ) : Type 0 where
+  pub period-positive : 0 < periodIn plan i
+  pub period-most : periodIn plan i ≤ mostPeriod
+  pub row : RowIn plan table i
 
 -- A chain of such tasks.
-pub record ChainIn (periods starts counts table chain : List ℕ) : Type 0 where
+pub record ChainIn (plan table chain : List ℕ) : Type 0 where
   pub some : 0 < length chain
-  pub entry : (j : ℕ) → j < length chain → TaskIn periods starts counts table (getD chain j 0)
+  pub entry : (j : ℕ) → j < length chain → TaskIn plan table (getD chain j 0)
 
 -- The greatest of n delays, and the smallest release that gives it, where releases lie T apart.
 pub record Greatest (n T : ℕ) (delays : ℕ → ℕ) (figure : Figure) : Type 0 where
   pub ticks-is : figure .ticks ≡ maximum n delays
   pub release-is : figure .release ≡ least n (λ k. eqb (delays k) (maximum n delays)) * T
 
--- What a pair of neighbours adds to the quick bound.
-abbrev pub pairBound : List Task → (ℕ → ℕ) → ℕ → ℕ → ℕ
-pairBound ts R p c = (period ts c - common ts p c) + cond (outranks ts c p) (up (common ts p c) (R p)) 0
-
--- The first n of sixteen places hold f 0, f 1, .. f (n − 1).
-pub record Column (places : List ℕ) (n : ℕ) (f : ℕ → ℕ) : Type 0 where
-  pub whole : length places ≡ 16
-  pub holds : (i : ℕ) → i < n → getD places i 0 ≡ f i
-
--- The arrays hold this of the first n tasks of ts.
-pub record Gathered (ts : List Task) (n : ℕ) (periods ranks starts counts : List ℕ) : Type 0 where
-  pub periods-are : Column periods n (period ts)
-  pub ranks-are : Column ranks n (rank ts)
-  pub starts-are : Column starts n (λ i. sum i (jobs ts))
-  pub counts-are : Column counts n (jobs ts)
+-- The plan holds the first n tasks of ts.
+pub record Planned (ts : List Task) (n : ℕ) (plan : List ℕ) : Type 0 where
+  pub whole : length plan ≡ 64
+  pub periods-are : (i : ℕ) → i < n → periodIn plan i ≡ period ts i
+  pub ranks-are : (i : ℕ) → i < n → rankIn plan i ≡ rank ts i
+  pub starts-are : (i : ℕ) → i < n → startIn plan i ≡ sum i (jobs ts)
+  pub counts-are : (i : ℕ) → i < n → countIn plan i ≡ jobs ts i

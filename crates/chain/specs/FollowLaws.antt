@@ -1,4 +1,4 @@
--- The longest delay of the readings so far, where of those that are handed over to one job only the first is followed.
+-- The longest delay of the paths so far, where of those that go to one job only the first is followed.
 use mathlib.Core.Path.{_≡_}
 use mathlib.Core.List.{List}
 use Prim.Native.Nat.{ℕ, _+_, _≤_, _<_}
@@ -9,14 +9,14 @@ use Rattle.chain.specs.Conditions.{delayIn, FirstHandedOver}
 use Rattle.chain.specs.GreatestLaws.{GreatestTo, greatest-none, greatest-new, greatest-kept}
 use Rattle.chain.specs.WalkLaws.{handed-together}
 
-module _ (periods ranks starts counts table chain rest : List ℕ) where
+module _ (plan table chain rest : List ℕ) where
   abbrev delays : ℕ → ℕ
-  delays = delayIn periods ranks starts counts table chain
+  delays = delayIn plan table chain
 
   abbrev HandedOn : ℕ → HandOver → Type 0
-  HandedOn = FirstHandedOver periods ranks starts counts table chain rest
+  HandedOn = FirstHandedOver plan table chain rest
 
-  -- Of the first k readings the longest delay is `ticks`, first that of job `at`; none that is still to come and goes to the job
+  -- Of the first k paths the longest delay is `ticks`, first that of job `at`; none that is still to come and goes to the job
   -- before `followed` takes longer.
   pub record Followed (k ticks at followed : ℕ) : Type 0 where
     pub greatest : GreatestTo delays k ticks at
@@ -26,7 +26,7 @@ module _ (periods ranks starts counts table chain rest : List ℕ) where
   followed-none = record { greatest = greatest-none delays; none-longer = λ j x l o e. absurd (omega arith) }
 
   module _ {k ticks at followed : ℕ} (f : Followed k ticks at followed) {next : HandOver} (handed : HandedOn k next) where
-    -- The reading of job k goes where the last one that was followed went,
+    -- The path from job k goes where the last one that was followed went,
     pub followed-again : next .job + 1 ≡ followed → Followed (k + 1) ticks at followed
     followed-again e = record {
       greatest = greatest-kept delays k ticks at (f .greatest) (f .none-longer k next (omega arith) handed e);

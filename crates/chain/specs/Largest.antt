@@ -5,16 +5,16 @@ use Prim.Native.Nat.{ℕ, suc, _+_, _-_, _*_, _/_, _≤_, _<_}
 use native.Mathlib.Nat.{le-of-dvd, le-trans}
 use native.Mathlib.Omega.{arith}
 use lib.ListN.{length, getD, length-drop}
-use Rattle.arith.specs.Whole.{up}
+use Rattle.arith.specs.Whole.{gcd, up}
 use Rattle.arith.specs.WholeLaws.{gcd-divides-right, gcd-pos, up-near}
 use Rattle.arith.specs.RangeLaws.{maximum-least}
 use Rattle.theory.specs.declared.Task.{Task}
 use Rattle.theory.specs.Model.Schedule.{period, release}
-use Rattle.theory.specs.Model.Chain.{Chain, outranks, Table, nextRelease, delay, common, bound, worst}
+use Rattle.theory.specs.Model.Chain.{Chain, Waits, Table, walkNext, walkDelay, walkBound, outranked, delay, worst}
 use Rattle.theory.specs.Model.Responses.{response, jobs}
 use Rattle.theory.specs.Analysis.Repetition.{response-period}
 use Rattle.sheet.specs.Tasks.{firstOf, restOf}
-use Rattle.chain.specs.Conditions.{mostPeriod, mostWait, TakenChain, mostFigure}
+use Rattle.chain.specs.Conditions.{mostPeriod, mostWait, mostFigure, TakenChain, pairBound}
 use Rattle.chain.specs.Calls.{figureOf}
 
 -- ---- what holds of every task on a chain
@@ -39,60 +39,57 @@ along-chain P ts each p (c ∷ rest) l = (each p (l .0), along-chain P ts each c
 -- ---- figures
 
 -- The period of task i, and its responses, are at most the longest period.
-pub record Small (ts : List Task) (table : Table) (i : ℕ) : Type 0 where
-  pub period-positive : 0 < period ts i
-  pub period-most : period ts i ≤ mostPeriod
+pub record Small (T : ℕ → ℕ) (table : Table) (i : ℕ) : Type 0 where
+  pub period-positive : 0 < T i
+  pub period-most : T i ≤ mostPeriod
   pub response-most : (k : ℕ) → table i k ≤ mostPeriod
 
-module _ (ts : List Task) (table : Table) where
-  pub next-most : (p c r : ℕ) → Small ts table p → Small ts table c → nextRelease ts table p c r ≤ r + mostWait
-  unfolding nextRelease
-  next-most p c r sp sc = go (outranks ts c p)
+module _ (T : ℕ → ℕ) (waits : Waits) (table : Table) where
+  pub next-most : (p c r : ℕ) → Small T table p → Small T table c → walkNext T waits table p c r ≤ r + mostWait
+  unfolding walkNext
+  next-most p c r sp sc = go (waits p c)
     where
-      go : (b : Bool) → up (period ts c) (cond b (r + table p (r / period ts p)) r) ≤ r + mostWait
-      go true = omega (arith, up-near (period ts c) (r + table p (r / period ts p)) (sc .period-positive), sp .response-most (r / period ts p), sc .period-most)
-      go false = omega (arith, up-near (period ts c) r (sc .period-positive), sc .period-most)
+      go : (b : Bool) → up (T c) (cond b (r + table p (r / T p)) r) ≤ r + mostWait
+      go true = omega (arith, up-near (T c) (r + table p (r / T p)) (sc .period-positive), sp .response-most (r / T p), sc .period-most)
+      go false = omega (arith, up-near (T c) r (sc .period-positive), sc .period-most)
 
   -- A wait for each hand-over, and the last job's response.
-  pub delay-most : (p : ℕ) (rest : List ℕ) (r : ℕ) → Along (Small ts table) p rest → delay ts table p rest r ≤ mostWait * length rest + mostPeriod
-  unfolding delay
-  delay-most p [] r s = omega (arith, s .response-most (r / period ts p))
+  pub delay-most : (p : ℕ) (rest : List ℕ) (r : ℕ) → Along (Small T table) p rest → walkDelay T waits table p rest r ≤ mostWait * length rest + mostPeriod
+  unfolding walkDelay
+  delay-most p [] r s = omega (arith, s .response-most (r / T p))
   delay-most p (c ∷ rest) r s =
       omega (
         arith,
-        next-most p c r (s .0) (along-first (Small ts table) c rest (s .1)),
-        delay-most c rest (nextRelease ts table p c r) (s .1),
+        next-most p c r (s .0) (along-first (Small T table) c rest (s .1)),
+        delay-most c rest (walkNext T waits table p c r) (s .1),
       )
 
 -- The same of the quick bound, for responses R of tasks.
-pub record SmallTask (ts : List Task) (R : ℕ → ℕ) (i : ℕ) : Type 0 where
-  pub period-positive : 0 < period ts i
-  pub period-most : period ts i ≤ mostPeriod
+pub record SmallTask (T R : ℕ → ℕ) (i : ℕ) : Type 0 where
+  pub period-positive : 0 < T i
+  pub period-most : T i ≤ mostPeriod
   pub response-most : R i ≤ mostPeriod
 
-module _ (ts : List Task) (R : ℕ → ℕ) where
-  pub common-most : (p c : ℕ) → SmallTask ts R p → SmallTask ts R c → (0 < common ts p c) × (common ts p c ≤ period ts c)
-  common-most p c sp sc = (
-    gcd-pos (period ts p) (period ts c) (sp .period-positive),
-    le-of-dvd (sc .period-positive) (gcd-divides-right (period ts p) (period ts c)),
-  )
+module _ (T : ℕ → ℕ) (waits : Waits) (R : ℕ → ℕ) where
+  common-most : (p c : ℕ) → SmallTask T R p → SmallTask T R c → (0 < gcd (T p) (T c)) × (gcd (T p) (T c) ≤ T c)
+  common-most p c sp sc = (gcd-pos (T p) (T c) (sp .period-positive), le-of-dvd (sc .period-positive) (gcd-divides-right (T p) (T c)))
 
-  pub pair-most : (p c : ℕ) → SmallTask ts R p → SmallTask ts R c → (period ts c - common ts p c) + cond (outranks ts c p) (up (common ts p c) (R p)) 0 ≤ mostWait
-  pair-most p c sp sc = go (outranks ts c p)
+  pub pair-most : (p c : ℕ) → SmallTask T R p → SmallTask T R c → pairBound T waits R p c ≤ mostWait
+  pair-most p c sp sc = go (waits p c)
     where
-      go : (b : Bool) → (period ts c - common ts p c) + cond b (up (common ts p c) (R p)) 0 ≤ mostWait
-      go true = omega (arith, common-most p c sp sc, up-near (common ts p c) (R p) (common-most p c sp sc .0), sp .response-most, sc .period-most)
+      go : (b : Bool) → (T c - gcd (T p) (T c)) + cond b (up (gcd (T p) (T c)) (R p)) 0 ≤ mostWait
+      go true = omega (arith, common-most p c sp sc, up-near (gcd (T p) (T c)) (R p) (common-most p c sp sc .0), sp .response-most, sc .period-most)
       go false = omega (arith, sc .period-most)
 
-  pub bound-most : (p : ℕ) (rest : List ℕ) → Along (SmallTask ts R) p rest → bound ts R p rest ≤ mostWait * length rest + mostPeriod
-  unfolding bound
+  pub bound-most : (p : ℕ) (rest : List ℕ) → Along (SmallTask T R) p rest → walkBound T waits R p rest ≤ mostWait * length rest + mostPeriod
+  unfolding walkBound
   bound-most p [] s = omega (arith, s .response-most)
-  bound-most p (c ∷ rest) s = omega (arith, pair-most p c (s .0) (along-first (SmallTask ts R) c rest (s .1)), bound-most c rest (s .1))
+  bound-most p (c ∷ rest) s = omega (arith, pair-most p c (s .0) (along-first (SmallTask T R) c rest (s .1)), bound-most c rest (s .1))
 
 -- ---- the worst figure
 
 module _ {ts : List Task} {chain : List ℕ} (taken : TakenChain ts chain) where
-  task-small : (i : ℕ) → i < length ts → Small ts (response ts) i
+  task-small : (i : ℕ) → i < length ts → Small (period ts) (response ts) i
   task-small i l = record {
     period-positive = taken .tasks .accepted .proper .period-positive i l;
     period-most = taken .tasks .period-most i l;
@@ -106,7 +103,7 @@ module _ {ts : List Task} {chain : List ℕ} (taken : TakenChain ts chain) where
     arith,
     length-drop 1 chain,
     taken .few,
-    delay-most ts (response ts) p rest (release ts p k) (along-chain (Small ts (response ts)) ts task-small p rest (taken .known)),
+    delay-most (period ts) (outranked ts) (response ts) p rest (release ts p k) (along-chain (Small (period ts) (response ts)) ts task-small p rest (taken .known)),
   ))
     where
       p : ℕ

@@ -13,9 +13,8 @@ pub mod Largest
 pub mod WalkLaws
 pub mod FollowLaws
 pub mod ReleaseLaws
-pub mod GatherLaws
-pub mod AlikeLaws
-pub mod ArrayLaws
+pub mod PlanLaws
+pub mod FigureLaws
 -- The results: what an answer says of every schedule, and one answer for each input.
 pub mod Results
 pub mod Unique

@@ -1,7 +1,7 @@
 -- Demand 3 in the words of the calls: what an answer says of every schedule of the sheet's tasks, whatever the demands of 1 to C.
 use mathlib.Core.Path.{_≡_, sym, ap, _∙_, subst}
 use mathlib.Core.List.{List}
-use Prim.Native.Nat.{ℕ, zero, suc, _+_, _-_, _*_, _/_, _%_, _≤_, _<_}
+use Prim.Native.Nat.{ℕ, _+_, _/_, _%_, _≤_, _<_}
 use native.Mathlib.Nat.{le-refl, div-add-mod'}
 use native.Mathlib.Omega.{arith}
 use lib.IntN.{ℤ, pos}
@@ -11,7 +11,8 @@ use Rattle.theory.specs.Model.Schedule.{period, release, Demands, Within, Run, 
 use Rattle.theory.specs.Model.Responses.{full, response, hyperperiod}
 use Rattle.theory.specs.Analysis.Repetition.{response-again}
 use Rattle.theory.specs.Model.Chain.{delay, worst, bound, PathEnds, Rising}
-use Rattle.theory.specs.Analysis.ChainLaws.{delay-again}
+use Rattle.theory.specs.Model.Readings.{Arrives}
+use Rattle.theory.specs.Analysis.ChainLaws.{delay-turns}
 use Rattle.theory.specs.Analysis.Paths.{path-within, path-exists, path-exact}
 use Rattle.theory.specs.Results.Demand3 as demand
 use Rattle.theory.specs.Results.Demand3.{GreatestDelay}
@@ -48,7 +49,7 @@ MarginAnswers s limit room z = marginOf s limit room ≡ given z
 abbrev pub firstRelease : List Task → List ℕ → ℕ → ℕ
 firstRelease ts chain k = release ts (firstOf chain) k
 
--- In a run the path of a reading along a chain, from job k of its first task, ends at f.
+-- In a run the path along a chain, from job k of its first task, ends at f.
 abbrev pub ChainPath : List ℕ → Demands → Run → ℕ → ℕ → Type 0
 ChainPath chain d run k f = PathEnds d run (firstOf chain) (restOf chain) k f
 
@@ -56,6 +57,10 @@ ChainPath chain d run k f = PathEnds d run (firstOf chain) (restOf chain) k f
 pub record PathWithin (ts : List Task) (chain : List ℕ) (d : Demands) (run : Run) (k ticks : ℕ) : Type 0 where
   pub exists : (f : ℕ) × ChainPath chain d run k f
   pub ends : (f : ℕ) → ChainPath chain d run k f → f ≤ firstRelease ts chain k + ticks
+
+-- In a run the reading of job k of a chain's first task, or a newer one, arrives at the chain's end at f.
+abbrev pub ReadingArrives : List ℕ → Demands → Run → ℕ → ℕ → Type 0
+ReadingArrives chain d run k f = Arrives d run (firstOf chain) (restOf chain) k f
 
 -- Each task on a chain outranks the one before it.
 abbrev pub RanksRise : List Task → List ℕ → Type 0
@@ -83,28 +88,32 @@ module _ {ts : List Task} {chain : List ℕ} (taken : TakenChain ts chain) where
   path-worst {d} within {run} schedule k =
       let x = demand.no-schedule-exceeds ts (taken .tasks .accepted) p rest (taken .known) d within run schedule k in record { exists = x .0; ends = x .1 }
 
-  -- Delays repeat with H.
-  delay-turns : (r m : ℕ) → delay ts (response ts) p rest (r + m * hyperperiod ts) ≡ delay ts (response ts) p rest r
-  delay-turns r zero = ap (delay ts (response ts) p rest) (omega arith)
-  delay-turns r (suc m) =
-      ap (delay ts (response ts) p rest) (omega arith)
-      ∙ delay-again (taken .tasks .accepted .proper) (response ts) (λ i k l. response-again (taken .tasks .accepted) i l k) p rest (r + m * hyperperiod ts) (taken .known)
-      ∙ delay-turns r m
-
   delay-modulo : (r at : ℕ) → r % hyperperiod ts ≡ at → delay ts (response ts) p rest r ≡ delay ts (response ts) p rest at
   delay-modulo r at e =
-      ap (delay ts (response ts) p rest) (omega (arith, div-add-mod' r (hyperperiod ts))) ∙ delay-turns at (r / hyperperiod ts)
+      ap (delay ts (response ts) p rest) (omega (arith, div-add-mod' r (hyperperiod ts)))
+      ∙ delay-turns (taken .tasks .accepted .proper) (response ts) (λ i k l. response-again (taken .tasks .accepted) i l k) p rest at (r / hyperperiod ts) (taken .known)
 
 -- ---- `worst`
 
 -- No schedule exceeds the figure. If `worst` answers w, then for all demands of 1 to C, every run that is a schedule for them and every
--- job of the chain's first task the path of its reading exists, and ends no later than w after the job's release.
+-- job of the chain's first task the path from it exists, and ends no later than w after the job's release.
 pub no-schedule-exceeds-worst :
     (s : Sheet) (room w r : ℕ) (answer : WorstAnswers s room w r)
     (d : Demands) (within : Within (tasksOf s) d) (run : Run) (schedule : Schedule (tasksOf s) d run) (k : ℕ)
     → PathWithin (tasksOf s) (chainOf s) d run k w
 no-schedule-exceeds-worst s room w r answer d within run schedule k =
     let g = worst-given s room answer in subst (PathWithin (tasksOf s) (chainOf s) d run k) (ap (λ f. f .ticks) (g .1)) (path-worst (g .0) within schedule k)
+
+-- No reading is late, unless a newer one is in its place. If `worst` answers w, then for all demands of 1 to C, every run that is a schedule
+-- for them and every job of the chain's first task its reading or a newer one arrives, no later than w after the job's release.
+pub reading-arrives-within-worst :
+    (s : Sheet) (room w r : ℕ) (answer : WorstAnswers s room w r)
+    (d : Demands) (within : Within (tasksOf s) d) (run : Run) (schedule : Schedule (tasksOf s) d run) (k : ℕ)
+    → (f : ℕ) × ReadingArrives (chainOf s) d run k f × (f ≤ firstRelease (tasksOf s) (chainOf s) k + w)
+reading-arrives-within-worst s room w r answer d within run schedule k =
+    let g = worst-given s room answer in
+    let x = demand.reading-arrives (tasksOf s) (g .0 .tasks .accepted) (firstOf (chainOf s)) (restOf (chainOf s)) (g .0 .known) d within run schedule k in
+    (x .0, x .1, omega (arith, x .2, ap (λ f. f .ticks) (g .1)))
 
 -- The figure never exceeds what `bound` answers.
 pub worst-within-bound :

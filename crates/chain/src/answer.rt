@@ -49,7 +49,7 @@ pub struct TaskFigures {
     pub greatest: [u32; 16],
 }
 
-// The job of the next task that a reading goes to, and how long it is from the producer's release to its own.
+// The job of the next task that a path goes on to, and how long it is from the producer's release to its own.
 pub struct HandOver {
     pub job: u32,
     pub wait: u32,

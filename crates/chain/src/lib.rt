@@ -18,116 +18,91 @@ use schedule::Sizes;
 use sheet::Sheet;
 ghost use mathlib.Core.Path.{_≡_};
 ghost use Prim.Native.Nat.{_+_, _*_, _≤_, _<_};
-ghost use lib.ListN.{length, getD};
+ghost use lib.ListN.{length};
 ghost use Rattle.theory.specs.Model.Responses.{hyperperiod, jobs};
 ghost use Rattle.theory.specs.Model.Schedule.{period, release};
-ghost use Rattle.theory.specs.Model.Chain.{bound};
 ghost use Rattle.sheet.specs.Sound.{Sound};
-ghost use Rattle.sheet.specs.Tasks.{tasksOf, chainOf, firstOf, restOf};
+ghost use Rattle.sheet.specs.Tasks.{tasksOf, chainOf, firstOf};
 ghost use Rattle.schedule.specs.Calls.{mostTicks};
 ghost use Rattle.chain.specs.Calls.{delayAt, figureOf, quickBound, less, mostLimit};
 ghost use Rattle.chain.specs.Promises.{DelayPromise, WorstPromise, BoundPromise, MarginPromise, DefaultMarginPromise, FiguresPromise, DelayRefusalPromise, WorstRefusalPromise, BoundRefusalPromise, MarginRefusalPromise, FiguresRefusalPromise};
-ghost use Rattle.schedule.specs.Taken.{Taken};
-ghost use Rattle.schedule.specs.Taken.{Holds};
-ghost use Rattle.chain.specs.Conditions.{mostWait, mostFigure, mostRelease, tasksIn, rowsIn, greatestIn, delayIn, onward, ahead, HandedOver, FirstHandedOver, RowIn, TaskIn, ChainIn, Greatest, pairBound, Gathered};
+ghost use Rattle.schedule.specs.Taken.{Taken, Holds};
+ghost use Rattle.chain.specs.Conditions.{mostWait, mostFigure, mostRelease, periodIn, countIn, rowsIn, greatestIn, delayIn, boundIn, pairIn, onward, ahead, HandedOver, FirstHandedOver, RowIn, TaskIn, ChainIn, Greatest, Planned};
 
 // "margin limit 0 to 4,000,000"
 const MOST_LIMIT: u32 = 4000000;
 
 const DEFAULT_LIMIT: u32 = 1000;
 
-// Of each task the period, the rank, where its row starts and how many jobs it has.
-fn gather_tasks(
-    s: Sheet,
-    h: u32,
-    periods: &mut [u32; 16],
-    ranks: &mut [u8; 16],
-    starts: &mut [u32; 16],
-    counts: &mut [u32; 16],
-)
+// Of each task i four numbers, from place 4 · i on: its period, its rank, where its row starts and how many jobs it has.
+fn plan_of(s: Sheet, h: u32) -> [u32; 64]
     requires { ⌜ Sound s × Taken (tasksOf s) ⌝ }
     requires { ⌜ h ≡ hyperperiod (tasksOf s) ⌝ }
-    requires { ⌜ (length (now periods) ≡ 16) × (length (now ranks) ≡ 16) × (length (now starts) ≡ 16) × (length (now counts) ≡ 16) ⌝ }
-    ensures { λ _. ⌜ Gathered (tasksOf s) (length (tasksOf s)) (now (periods .exit)) (now (ranks .exit)) (now (starts .exit)) (now (counts .exit)) ⌝ }
+    ensures { λ r. ⌜ Planned (tasksOf s) (length (tasksOf s)) r ⌝ }
 {
     let n = s.count as usize;
+    let mut plan = [0u32; 64];
     let mut from = 0u32;
     let mut i = 0usize;
     while i < n {
         let t = s.tasks[i];
         let jobs = h / t.period;
-        periods[i] = t.period;
-        ranks[i] = t.rank;
-        starts[i] = from;
-        counts[i] = jobs;
+        plan[4 * i] = t.period;
+        plan[4 * i + 1] = t.rank as u32;
+        plan[4 * i + 2] = from;
+        plan[4 * i + 3] = jobs;
         from += jobs;
         i += 1;
     }
+    plan
 }
 
 // The response of job k of task i; "a job released at or after H has the response of the job released at its release modulo H".
-fn response_of(i: usize, k: u32, starts: &[u32; 16], counts: &[u32; 16], table: &[u32]) -> u32
-    requires { ⌜ RowIn (now starts) (now counts) (now table) i ⌝ }
-    ensures { λ r. ⌜ r ≡ rowsIn (now (starts .entry)) (now (counts .entry)) (now (table .entry)) i k ⌝ }
+fn response_of(i: usize, k: u32, plan: &[u32; 64], table: &[u32]) -> u32
+    requires { ⌜ RowIn (now plan) (now table) i ⌝ }
+    ensures { λ r. ⌜ r ≡ rowsIn (now (plan .entry)) (now (table .entry)) i k ⌝ }
 {
-    let count = counts[i];
+    let count = plan[4 * i + 3];
     let mut job = k;
     if count <= job {
         job = k % count;
     }
-    let at = starts[i] + job;
+    let at = plan[4 * i + 2] + job;
     table[at as usize]
 }
 
 // The hand-over from job k of p to c: "the next release", and how long it is until then.
-fn hand_over(
-    p: usize,
-    c: usize,
-    k: u32,
-    periods: &[u32; 16],
-    ranks: &[u8; 16],
-    starts: &[u32; 16],
-    counts: &[u32; 16],
-    table: &[u32],
-) -> HandOver
-    requires { ⌜ TaskIn (now periods) (now starts) (now counts) (now table) p ⌝ }
-    requires { ⌜ TaskIn (now periods) (now starts) (now counts) (now table) c ⌝ }
-    requires { ⌜ release (tasksIn (now periods) (now ranks)) p k ≤ mostRelease ⌝ }
-    ensures { λ r. ⌜ HandedOver (tasksIn (now (periods .entry)) (now (ranks .entry))) (rowsIn (now (starts .entry)) (now (counts .entry)) (now (table .entry))) p c k r ⌝ }
+fn hand_over(p: usize, c: usize, k: u32, plan: &[u32; 64], table: &[u32]) -> HandOver
+    requires { ⌜ TaskIn (now plan) (now table) p ⌝ }
+    requires { ⌜ TaskIn (now plan) (now table) c ⌝ }
+    requires { ⌜ k * periodIn (now plan) p ≤ mostRelease ⌝ }
+    ensures { λ r. ⌜ HandedOver (now (plan .entry)) (now (table .entry)) p c k r ⌝ }
 {
-    let release = k * periods[p];
-    let rank = ranks[p];
+    let release = k * plan[4 * p];
+    let rank = plan[4 * p + 1];
     let mut ready = release;
-    if rank < ranks[c] {
-        ready += response_of(p, k, starts, counts, table);
+    if rank < plan[4 * c + 1] {
+        ready += response_of(p, k, plan, table);
     }
-    let period = periods[c];
+    let period = plan[4 * c];
     let job = (ready + (period - 1)) / period;
     let wait = job * period - release;
     HandOver { job, wait }
 }
 
 // The delay of a chain at job k of its first task: the wait for the next release, and then "the same rule asked of a shorter one".
-fn walk(
-    chain: &[u8],
-    k: u32,
-    periods: &[u32; 16],
-    ranks: &[u8; 16],
-    starts: &[u32; 16],
-    counts: &[u32; 16],
-    table: &[u32],
-) -> u32
-    requires { ⌜ ChainIn (now periods) (now starts) (now counts) (now table) (now chain) ⌝ }
-    requires { ⌜ release (tasksIn (now periods) (now ranks)) (firstOf (now chain)) k + mostWait * length (now chain) ≤ mostRelease + mostWait ⌝ }
-    ensures { λ r. ⌜ r ≡ delayIn (now (periods .entry)) (now (ranks .entry)) (now (starts .entry)) (now (counts .entry)) (now (table .entry)) (now (chain .entry)) k ⌝ }
+fn walk(chain: &[u8], k: u32, plan: &[u32; 64], table: &[u32]) -> u32
+    requires { ⌜ ChainIn (now plan) (now table) (now chain) ⌝ }
+    requires { ⌜ k * periodIn (now plan) (firstOf (now chain)) + mostWait * length (now chain) ≤ mostRelease + mostWait ⌝ }
+    ensures { λ r. ⌜ r ≡ delayIn (now (plan .entry)) (now (table .entry)) (now (chain .entry)) k ⌝ }
 {
     let p = chain[0] as usize;
     if chain.len() == 1 {
-        return response_of(p, k, starts, counts, table);
+        return response_of(p, k, plan, table);
     }
     let c = chain[1] as usize;
-    let next = hand_over(p, c, k, periods, ranks, starts, counts, table);
-    next.wait + walk(&chain[1..], next.job, periods, ranks, starts, counts, table)
+    let next = hand_over(p, c, k, plan, table);
+    next.wait + walk(&chain[1..], next.job, plan, table)
 }
 
 // How much of the chain the first hand-over leaves behind: its first task, or nothing where that is all.
@@ -140,63 +115,39 @@ fn onward(chain: &[u8]) -> usize
     1
 }
 
-// The first hand-over of the reading of job k; on a chain of one task the reading stays where it is.
-fn first_hand_over(
-    chain: &[u8],
-    k: u32,
-    periods: &[u32; 16],
-    ranks: &[u8; 16],
-    starts: &[u32; 16],
-    counts: &[u32; 16],
-    table: &[u32],
-) -> HandOver
-    requires { ⌜ ChainIn (now periods) (now starts) (now counts) (now table) (now chain) ⌝ }
-    requires { ⌜ release (tasksIn (now periods) (now ranks)) (firstOf (now chain)) k ≤ mostRelease ⌝ }
-    ensures { λ r. ⌜ FirstHandedOver (now (periods .entry)) (now (ranks .entry)) (now (starts .entry)) (now (counts .entry)) (now (table .entry)) (now (chain .entry)) (ahead (now (chain .entry))) k r ⌝ }
+// The first hand-over of the path from job k; on a chain of one task the path stays where it is.
+fn first_hand_over(chain: &[u8], k: u32, plan: &[u32; 64], table: &[u32]) -> HandOver
+    requires { ⌜ ChainIn (now plan) (now table) (now chain) ⌝ }
+    requires { ⌜ k * periodIn (now plan) (firstOf (now chain)) ≤ mostRelease ⌝ }
+    ensures { λ r. ⌜ FirstHandedOver (now (plan .entry)) (now (table .entry)) (now (chain .entry)) (ahead (now (chain .entry))) k r ⌝ }
 {
     let p = chain[0] as usize;
     if chain.len() == 1 {
         return HandOver { job: k, wait: 0 };
     }
     let c = chain[1] as usize;
-    hand_over(p, c, k, periods, ranks, starts, counts, table)
+    hand_over(p, c, k, plan, table)
 }
 
-// The greatest delay over the first task's jobs, and the smallest release that gives it. Readings that are handed over to one job
+// The greatest delay over the first task's jobs, and the smallest release that gives it. Paths that go to one job
 // end together, so of these only the first is followed.
-fn worst_along(
-    chain: &[u8],
-    periods: &[u32; 16],
-    ranks: &[u8; 16],
-    starts: &[u32; 16],
-    counts: &[u32; 16],
-    table: &[u32],
-) -> Figure
-    requires { ⌜ ChainIn (now periods) (now starts) (now counts) (now table) (now chain) ⌝ }
-    requires { ⌜ (length (now chain) ≤ 16) × (getD (now counts) (firstOf (now chain)) 0 * getD (now periods) (firstOf (now chain)) 0 ≤ mostTicks) ⌝ }
-    ensures { λ r. ⌜ Greatest (getD (now (counts .entry)) (firstOf (now (chain .entry))) 0) (getD (now (periods .entry)) (firstOf (now (chain .entry))) 0) (delayIn (now (periods .entry)) (now (ranks .entry)) (now (starts .entry)) (now (counts .entry)) (now (table .entry)) (now (chain .entry))) r ⌝ }
+fn worst_along(chain: &[u8], plan: &[u32; 64], table: &[u32]) -> Figure
+    requires { ⌜ ChainIn (now plan) (now table) (now chain) ⌝ }
+    requires { ⌜ (length (now chain) ≤ 16) × (countIn (now plan) (firstOf (now chain)) * periodIn (now plan) (firstOf (now chain)) ≤ mostTicks) ⌝ }
+    ensures { λ r. ⌜ Greatest (countIn (now (plan .entry)) (firstOf (now (chain .entry)))) (periodIn (now (plan .entry)) (firstOf (now (chain .entry)))) (delayIn (now (plan .entry)) (now (table .entry)) (now (chain .entry))) r ⌝ }
 {
     let p = chain[0] as usize;
-    let n = counts[p];
+    let n = plan[4 * p + 3];
     let from = onward(chain);
     let mut ticks = 0u32;
     let mut at = 0u32;
     let mut followed = 0u32;
     let mut k = 0u32;
     while k < n {
-        let next = first_hand_over(chain, k, periods, ranks, starts, counts, table);
+        let next = first_hand_over(chain, k, plan, table);
         if next.job + 1 != followed {
             followed = next.job + 1;
-            let delay = next.wait
-                + walk(
-                    &chain[from..],
-                    next.job,
-                    periods,
-                    ranks,
-                    starts,
-                    counts,
-                    table,
-                );
+            let delay = next.wait + walk(&chain[from..], next.job, plan, table);
             if ticks < delay {
                 ticks = delay;
                 at = k;
@@ -204,62 +155,47 @@ fn worst_along(
         }
         k += 1;
     }
-    let release = at * periods[p];
+    let release = at * plan[4 * p];
     Figure { ticks, release }
 }
 
 // R of task i.
-fn task_response(i: usize, starts: &[u32; 16], counts: &[u32; 16], table: &[u32]) -> u32
-    requires { ⌜ RowIn (now starts) (now counts) (now table) i ⌝ }
-    ensures { λ r. ⌜ r ≡ greatestIn (now (starts .entry)) (now (counts .entry)) (now (table .entry)) i ⌝ }
+fn task_response(i: usize, plan: &[u32; 64], table: &[u32]) -> u32
+    requires { ⌜ RowIn (now plan) (now table) i ⌝ }
+    ensures { λ r. ⌜ r ≡ greatestIn (now (plan .entry)) (now (table .entry)) i ⌝ }
 {
-    let from = starts[i] as usize;
-    let end = from + counts[i] as usize;
+    let from = plan[4 * i + 2] as usize;
+    let end = from + plan[4 * i + 3] as usize;
     arith::greatest(&table[from..end])
 }
 
 // What a pair of neighbours adds to the quick bound.
-fn pair_bound(
-    p: usize,
-    c: usize,
-    periods: &[u32; 16],
-    ranks: &[u8; 16],
-    starts: &[u32; 16],
-    counts: &[u32; 16],
-    table: &[u32],
-) -> u32
-    requires { ⌜ TaskIn (now periods) (now starts) (now counts) (now table) p ⌝ }
-    requires { ⌜ TaskIn (now periods) (now starts) (now counts) (now table) c ⌝ }
-    ensures { λ r. ⌜ r ≡ pairBound (tasksIn (now (periods .entry)) (now (ranks .entry))) (greatestIn (now (starts .entry)) (now (counts .entry)) (now (table .entry))) p c ⌝ }
+fn pair_bound(p: usize, c: usize, plan: &[u32; 64], table: &[u32]) -> u32
+    requires { ⌜ TaskIn (now plan) (now table) p ⌝ }
+    requires { ⌜ TaskIn (now plan) (now table) c ⌝ }
+    ensures { λ r. ⌜ r ≡ pairIn (now (plan .entry)) (now (table .entry)) p c ⌝ }
 {
-    let g = arith::gcd(periods[p], periods[c]);
-    let mut ticks = periods[c] - g;
-    if ranks[p] < ranks[c] {
-        ticks += arith::up(g, task_response(p, starts, counts, table)) as u32;
+    let g = arith::gcd(plan[4 * p], plan[4 * c]);
+    let mut ticks = plan[4 * c] - g;
+    if plan[4 * p + 1] < plan[4 * c + 1] {
+        ticks += arith::up(g, task_response(p, plan, table)) as u32;
     }
     ticks
 }
 
 // The quick bound of a chain.
-fn bound_along(
-    chain: &[u8],
-    periods: &[u32; 16],
-    ranks: &[u8; 16],
-    starts: &[u32; 16],
-    counts: &[u32; 16],
-    table: &[u32],
-) -> u32
-    requires { ⌜ ChainIn (now periods) (now starts) (now counts) (now table) (now chain) ⌝ }
+fn bound_along(chain: &[u8], plan: &[u32; 64], table: &[u32]) -> u32
+    requires { ⌜ ChainIn (now plan) (now table) (now chain) ⌝ }
     requires { ⌜ length (now chain) ≤ 16 ⌝ }
-    ensures { λ r. ⌜ r ≡ bound (tasksIn (now (periods .entry)) (now (ranks .entry))) (greatestIn (now (starts .entry)) (now (counts .entry)) (now (table .entry))) (firstOf (now (chain .entry))) (restOf (now (chain .entry))) ⌝ }
+    ensures { λ r. ⌜ r ≡ boundIn (now (plan .entry)) (now (table .entry)) (now (chain .entry)) ⌝ }
 {
     let p = chain[0] as usize;
     if chain.len() == 1 {
-        return task_response(p, starts, counts, table);
+        return task_response(p, plan, table);
     }
     let c = chain[1] as usize;
-    let ticks = pair_bound(p, c, periods, ranks, starts, counts, table);
-    ticks + bound_along(&chain[1..], periods, ranks, starts, counts, table)
+    let ticks = pair_bound(p, c, plan, table);
+    ticks + bound_along(&chain[1..], plan, table)
 }
 
 // The delay of the sheet's chain at job k of its first task.
@@ -270,14 +206,10 @@ fn delay_in(s: Sheet, h: u32, k: u32, table: &[u32]) -> u32
     requires { ⌜ k < jobs (tasksOf s) (firstOf (chainOf s)) ⌝ }
     ensures { λ r. ⌜ r ≡ delayAt (tasksOf s) (chainOf s) (release (tasksOf s) (firstOf (chainOf s)) k) ⌝ }
 {
-    let mut periods = [0u32; 16];
-    let mut ranks = [0u8; 16];
-    let mut starts = [0u32; 16];
-    let mut counts = [0u32; 16];
-    gather_tasks(s, h, &mut periods, &mut ranks, &mut starts, &mut counts);
+    let plan = plan_of(s, h);
     let chain = s.chain;
     let m = s.length as usize;
-    walk(&chain[..m], k, &periods, &ranks, &starts, &counts, table)
+    walk(&chain[..m], k, &plan, table)
 }
 
 // The worst figure of the sheet's chain.
@@ -287,14 +219,10 @@ fn worst_in(s: Sheet, h: u32, table: &[u32]) -> Figure
     requires { ⌜ Holds (tasksOf s) (now table) ⌝ }
     ensures { λ r. ⌜ r ≡ figureOf (tasksOf s) (chainOf s) ⌝ }
 {
-    let mut periods = [0u32; 16];
-    let mut ranks = [0u8; 16];
-    let mut starts = [0u32; 16];
-    let mut counts = [0u32; 16];
-    gather_tasks(s, h, &mut periods, &mut ranks, &mut starts, &mut counts);
+    let plan = plan_of(s, h);
     let chain = s.chain;
     let m = s.length as usize;
-    worst_along(&chain[..m], &periods, &ranks, &starts, &counts, table)
+    worst_along(&chain[..m], &plan, table)
 }
 
 // The quick bound of the sheet's chain.
@@ -304,14 +232,10 @@ fn bound_in(s: Sheet, h: u32, table: &[u32]) -> u32
     requires { ⌜ Holds (tasksOf s) (now table) ⌝ }
     ensures { λ r. ⌜ r ≡ quickBound (tasksOf s) (chainOf s) ⌝ }
 {
-    let mut periods = [0u32; 16];
-    let mut ranks = [0u8; 16];
-    let mut starts = [0u32; 16];
-    let mut counts = [0u32; 16];
-    gather_tasks(s, h, &mut periods, &mut ranks, &mut starts, &mut counts);
+    let plan = plan_of(s, h);
     let chain = s.chain;
     let m = s.length as usize;
-    bound_along(&chain[..m], &periods, &ranks, &starts, &counts, table)
+    bound_along(&chain[..m], &plan, table)
 }
 
 // T of the chain's first task.

@@ -1,18 +1,16 @@
 -- Refusal 15, "exactly when": the test of a late task tells whether one of its jobs released before H is late, and `lateGreatest` the greatest-ranked late task.
 use mathlib.Core.Path.{_≡_, refl, sym, ap, _∙_, subst}
 use mathlib.Core.List.{List}
-use mathlib.Core.Bool.{Bool, true, false, cond, false≢true}
-use Prim.Native.Nat.{ℕ, zero, suc, _≤_, _<_}
-use native.Mathlib.Nat.{le-refl}
+use mathlib.Core.Bool.{true, false≢true}
+use Prim.Native.Nat.{ℕ, suc, _≤_, _<_}
 use native.Mathlib.Omega.{arith}
-use lib.Dec.{ltb}
 use lib.ListN.{length}
-use borrow.Author.Tests.{ltb-true, ltb-false, lt-ltb}
+use borrow.Author.Tests.{ltb-true, lt-ltb}
 use Rattle.theory.specs.declared.Task.{Task}
 use Rattle.arith.specs.Ranges.{least}
-use Rattle.arith.specs.RangeLaws.{least-passes, least-first, below-suc}
+use Rattle.arith.specs.RangeLaws.{least-passes, least-first}
 use Rattle.theory.specs.Model.Schedule.{release, rank, Proper, need, Slot, idle, busy, done}
-use Rattle.theory.specs.Model.Greatest.{outranking, greatest}
+use Rattle.theory.specs.Analysis.GreatestLaws.{IsGreatest, greatest-is}
 use Rattle.theory.specs.Model.Responses.{full, fullBudget, jobs, Late, LateTask, Accepted}
 use Rattle.theory.specs.Analysis.Hyperperiod.{jobs-released, released-jobs}
 use Rattle.schedule.specs.Calls.{late, lateTask, lateGreatest}
@@ -42,29 +40,6 @@ module _ {ts : List Task} (good : Proper ts) (i : ℕ) (known : i < length ts) w
 
 -- All tasks
 
--- The slot holds the late task of greatest rank among the first n, or is idle where none is late.
-Marks : List Task → ℕ → Slot → Type 0
-Marks ts n idle = (j : ℕ) → j < n → lateTask ts j ≡ false
-Marks ts n (busy i) = (i < n) × (lateTask ts i ≡ true) × ((j : ℕ) → j < n → lateTask ts j ≡ true → rank ts j ≤ rank ts i)
-
-lateGreatest-marks : (ts : List Task) (n : ℕ) → Marks ts n (lateGreatest ts n)
-unfolding greatest Marks
-lateGreatest-marks ts zero = λ j l. absurd (omega arith)
-lateGreatest-marks ts (suc n) = go (lateTask ts n) refl (lateGreatest ts n) (lateGreatest-marks ts n)
-  where
-    lower : ℕ → ℕ → Type 0
-    lower i j = lateTask ts j ≡ true → rank ts j ≤ rank ts i
-
-    go : (b : Bool) → lateTask ts n ≡ b → (x : Slot) → Marks ts n x → Marks ts (suc n) (cond b (outranking (rank ts) n x) x)
-    go false e idle h = below-suc (λ j. lateTask ts j ≡ false) h e
-    go false e (busy i) h = (omega (arith, h .0), h .1, below-suc (lower i) (h .2) (λ q. absurd (false≢true (sym e ∙ q))))
-    go true e idle h = (omega arith, e, below-suc (lower n) (λ j l q. absurd (false≢true (sym (h j l) ∙ q))) (λ q. le-refl _))
-    go true e (busy i) h = pick (ltb (rank ts i) (rank ts n)) refl
-      where
-        pick : (b : Bool) → ltb (rank ts i) (rank ts n) ≡ b → Marks ts (suc n) (cond b (busy n) (busy i))
-        pick true q = (omega arith, e, below-suc (lower n) (λ j l z. omega (arith, h .2 j l z, ltb-true (rank ts i) (rank ts n) q)) (λ z. le-refl _))
-        pick false q = (omega (arith, h .0), h .1, below-suc (lower i) (h .2) (λ z. ltb-false (rank ts i) (rank ts n) q))
-
 -- Task i is late, and no late task outranks it.
 pub record GreatestLate (ts : List Task) (i : ℕ) : Type 0 where
   pub known : i < length ts
@@ -72,18 +47,19 @@ pub record GreatestLate (ts : List Task) (i : ℕ) : Type 0 where
   pub greatest-rank : (j : ℕ) → j < length ts → LateTask ts j → rank ts j ≤ rank ts i
 
 module _ {ts : List Task} (good : Proper ts) where
+  greatest : {x : Slot} → lateGreatest ts (length ts) ≡ x → IsGreatest (rank ts) (lateTask ts) (length ts) x
+  greatest e = subst (IsGreatest (rank ts) (lateTask ts) (length ts)) e (greatest-is (rank ts) (lateTask ts) (length ts))
+
   -- `lateGreatest` is idle exactly when no task is late,
   pub idle-accepted : lateGreatest ts (length ts) ≡ idle → Accepted ts
-  unfolding Marks
   idle-accepted e = record {
     proper = good;
-    none-late = λ i l x. false≢true (sym (subst (Marks ts (length ts)) e (lateGreatest-marks ts (length ts)) i l) ∙ task-late good i l x);
+    none-late = λ i l x. false≢true (sym (greatest e i l) ∙ task-late good i l x);
   }
 
   -- and busy with i exactly when i is the greatest-ranked late task.
   pub busy-greatest : {i : ℕ} → lateGreatest ts (length ts) ≡ busy i → GreatestLate ts i
-  unfolding Marks
-  busy-greatest {i} e = let h = subst (Marks ts (length ts)) e (lateGreatest-marks ts (length ts)) in record {
+  busy-greatest {i} e = let h = greatest e in record {
     known = h .0;
     is-late = late-task good i (h .0) (h .1);
     greatest-rank = λ j l x. h .2 j l (task-late good j l x);

@@ -1,4 +1,4 @@
--- A 32-bit number less than zero is one of the lower half of 64 bits when its sign is turned.
+-- Below zero the sign is turned, for which 64 bits have room; from zero on a number is its own magnitude.
 use mathlib.Core.Path.{_≡_, sym, ap, _∙_, subst}
 use mathlib.Core.Bool.{true, false, false≢true}
 use native.Mathlib.Omega.{arith}

@@ -3,16 +3,13 @@ use mathlib.Core.Path.{_≡_, sym, ap₂, _∙_}
 use mathlib.Core.List.{List}
 use Prim.Native.Nat.{ℕ, _+_, _-_, _≤_, _<_}
 use native.Mathlib.Omega.{arith}
-use lib.ListN.{length, getD, length-drop}
+use lib.ListN.{length, length-drop}
 use borrow.Fn.Kinds.{In}
 use borrow.Fn.PlainCycle.{Measures, is, falls, and}
 use borrow.Author.Needs.{needs}
-use Rattle.theory.specs.declared.Task.{Task}
-use Rattle.theory.specs.Model.Chain.{bound}
-use Rattle.sheet.specs.Tasks.{firstOf, restOf}
-use Rattle.chain.specs.Conditions.{mostWait, tasksIn, greatestIn, ChainIn}
-use Rattle.chain.specs.Largest.{pair-most}
-use Rattle.chain.specs.WalkLaws.{part-from, bound-one, bound-more, entry-small-task, path-rest, path-bound}
+use Rattle.sheet.specs.Tasks.{restOf}
+use Rattle.chain.specs.Conditions.{mostWait, boundIn, ChainIn}
+use Rattle.chain.specs.WalkLaws.{part-from, bound-one, bound-more, pair-near, path-rest, path-bound}
 use Rattle.chain.proofs.bound_along.Reads as bound-along
 use Rattle.chain.proofs.bound_along.Kinds as bound-along-kinds
 use Rattle.chain.proofs.pair_bound.Reads as pair-bound-reads
@@ -21,14 +18,14 @@ use Rattle.chain.proofs.+bound_along.Lts-bound_along as bound-along-lts
 use Rattle.chain.proofs.+bound_along.{statement}
 use Rattle.chain.proofs.+bound_along.Tie.{close}
 
-abbrev μ-bound-along : Measures 6 bound-along-kinds.ps ℕ
+abbrev μ-bound-along : Measures 3 bound-along-kinds.ps ℕ
 μ-bound-along κs a = length (a .0 .now)
 
-abbrev bound-along-at : ℕ → In 6 bound-along-kinds.ps
-bound-along-at t = and 6 bound-along-kinds.ps (is 6 bound-along-kinds.ps μ-bound-along t) bound-along.Pre
+abbrev bound-along-at : ℕ → In 3 bound-along-kinds.ps
+bound-along-at t = and 3 bound-along-kinds.ps (is 3 bound-along-kinds.ps μ-bound-along t) bound-along.Pre
 
-abbrev bound-along-below : ℕ → In 6 bound-along-kinds.ps
-bound-along-below t = and 6 bound-along-kinds.ps (falls 6 bound-along-kinds.ps _<_ μ-bound-along t) bound-along.Pre
+abbrev bound-along-below : ℕ → In 3 bound-along-kinds.ps
+bound-along-below t = and 3 bound-along-kinds.ps (falls 3 bound-along-kinds.ps _<_ μ-bound-along t) bound-along.Pre
 
 -- What the callees ask and tell.
 abbrev claims : ℕ → bound-along-lts.Claims
@@ -48,7 +45,7 @@ bound-along-returns : (t : ℕ) → bound-along-lts.Need-returns (claims t) (bou
 bound-along-returns t c =
     let a = c .before .before .before .before .before .args in
     c .task-response .ensures
-    ∙ sym (bound-one (tasksIn (a .periods .now) (a .ranks .now)) (greatestIn (a .starts .now) (a .counts .now) (a .table .now)) (a .chain .now) (c .before .if1 .taken))
+    ∙ sym (bound-one (a .plan .now) (a .table .now) (a .chain .now) (c .before .if1 .taken))
 
 bound-along-shared-slice-read-c : (t : ℕ) → bound-along-lts.Need-shared-slice-read-c (claims t) (bound-along-at t) bound-along.Post
 bound-along-shared-slice-read-c t c = search needs
@@ -79,26 +76,20 @@ module _ (t : ℕ) (c : bound-along-lts.After-pair-bound (claims t) (bound-along
   abbrev chain : List ℕ
   chain = start .args .chain .now
 
-  abbrev ts : List Task
-  ts = tasksIn (start .args .periods .now) (start .args .ranks .now)
+  abbrev plan : List ℕ
+  plan = start .args .plan .now
 
-  abbrev R : ℕ → ℕ
-  R = greatestIn (start .args .starts .now) (start .args .counts .now) (start .args .table .now)
+  abbrev table : List ℕ
+  table = start .args .table .now
 
   more : 1 < length chain
   more = omega (arith, start .pre .1 .0 .some, c .before .before .if1 .left)
 
-  rest-path : ChainIn (start .args .periods .now) (start .args .starts .now) (start .args .counts .now) (start .args .table .now) (restOf chain)
-  rest-path = path-rest (start .args .ranks .now) (start .pre .1 .0) more
+  rest-path : ChainIn plan table (restOf chain)
+  rest-path = path-rest (start .pre .1 .0) more
 
   ticks-most : c .pair-bound .result ≤ mostWait
-  ticks-most = omega (
-    arith,
-    c .pair-bound .ensures,
-    pair-most ts R (firstOf chain) (getD chain 1 0)
-        (entry-small-task (start .args .ranks .now) (firstOf chain) (start .pre .1 .0 .entry 0 (start .pre .1 .0 .some)))
-        (entry-small-task (start .args .ranks .now) (getD chain 1 0) (start .pre .1 .0 .entry 1 more)),
-  )
+  ticks-most = omega (arith, c .pair-bound .ensures, pair-near (start .pre .1 .0 .entry 0 (start .pre .1 .0 .some)) (start .pre .1 .0 .entry 1 more))
 
 bound-along-bound-along-requires : (t : ℕ) → bound-along-lts.Need-bound-along-requires (claims t) (bound-along-at t) bound-along.Post
 bound-along-bound-along-requires t c κs =
@@ -110,19 +101,19 @@ bound-along-bound-along-requires t c κs =
     )
 
 rest-is : (t : ℕ) (c : bound-along-lts.After-bound-along (claims t) (bound-along-at t) bound-along.Post)
-    → let h = c .before .before in c .bound-along .result ≡ bound (ts t h) (R t h) (firstOf (restOf (chain t h))) (restOf (restOf (chain t h)))
+    → let h = c .before .before in c .bound-along .result ≡ boundIn (plan t h) (table t h) (restOf (chain t h))
 rest-is t c = rw (part-from 1 (chain t (c .before .before))) at (c .bound-along .ensures)
 
 bound-along-add-result : (t : ℕ) → bound-along-lts.Need-add-result (claims t) (bound-along-at t) bound-along.Post
 bound-along-add-result t c =
     let h = c .before .before in
     let s = start t h in
-    omega (arith, ticks-most t h, rest-is t c, path-bound (s .args .ranks .now) (rest-path t h), length-drop 1 (chain t h), s .pre .1 .1)
+    omega (arith, ticks-most t h, rest-is t c, path-bound (rest-path t h), length-drop 1 (chain t h), s .pre .1 .1)
 
 bound-along-returns-2 : (t : ℕ) → bound-along-lts.Need-returns-2 (claims t) (bound-along-at t) bound-along.Post
 bound-along-returns-2 t c =
     let h = c .before .before in
-    ap₂ _+_ (h .pair-bound .ensures) (rest-is t c) ∙ sym (bound-more (ts t h) (R t h) (chain t h) (more t h))
+    ap₂ _+_ (h .pair-bound .ensures) (rest-is t c) ∙ sym (bound-more (plan t h) (table t h) (chain t h) (more t h))
 
 pub +bound-along-spec : {M : Type 1} → statement M
 +bound-along-spec = close μ-bound-along λ t. bound-along-lts.spec (claims t) (bound-along-at t) bound-along.Post

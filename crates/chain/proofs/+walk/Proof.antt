@@ -1,20 +1,16 @@
 -- A chain of one task is answered from its row; a longer one by the wait for the next release and the same walk along the rest.
 use mathlib.Core.Path.{_≡_, sym, ap, _∙_}
 use mathlib.Core.List.{List}
-use Prim.Native.Nat.{ℕ, _+_, _-_, _≤_, _<_}
+use Prim.Native.Nat.{ℕ, _+_, _-_, _*_, _≤_, _<_}
 use native.Mathlib.Omega.{arith}
 use lib.ListN.{length, getD, length-drop}
 use lib.Seq.{getD-drop}
 use borrow.Fn.Kinds.{In}
 use borrow.Fn.PlainCycle.{Measures, is, falls, and}
 use borrow.Author.Needs.{needs}
-use Rattle.theory.specs.declared.Task.{Task}
-use Rattle.theory.specs.Model.Schedule.{release}
-use Rattle.theory.specs.Model.Chain.{Table, delay}
 use Rattle.sheet.specs.Tasks.{firstOf, restOf}
-use Rattle.chain.specs.Conditions.{mostWait, tasksIn, rowsIn, ChainIn}
-use Rattle.chain.specs.Largest.{next-most}
-use Rattle.chain.specs.WalkLaws.{part-from, delay-one, delay-more, entry-small, path-rest, path-delay}
+use Rattle.chain.specs.Conditions.{mostWait, periodIn, delayIn, ChainIn}
+use Rattle.chain.specs.WalkLaws.{part-from, delay-one, delay-more, next-near, path-rest, path-delay}
 use Rattle.chain.proofs.walk.Reads as walk
 use Rattle.chain.proofs.walk.Kinds as walk-kinds
 use Rattle.chain.proofs.hand_over.Reads as hand-over-reads
@@ -23,14 +19,14 @@ use Rattle.chain.proofs.+walk.Lts-walk as walk-lts
 use Rattle.chain.proofs.+walk.{statement}
 use Rattle.chain.proofs.+walk.Tie.{close}
 
-abbrev μ-walk : Measures 6 walk-kinds.ps ℕ
+abbrev μ-walk : Measures 3 walk-kinds.ps ℕ
 μ-walk κs a = length (a .0 .now)
 
-abbrev walk-at : ℕ → In 6 walk-kinds.ps
-walk-at t = and 6 walk-kinds.ps (is 6 walk-kinds.ps μ-walk t) walk.Pre
+abbrev walk-at : ℕ → In 3 walk-kinds.ps
+walk-at t = and 3 walk-kinds.ps (is 3 walk-kinds.ps μ-walk t) walk.Pre
 
-abbrev walk-below : ℕ → In 6 walk-kinds.ps
-walk-below t = and 6 walk-kinds.ps (falls 6 walk-kinds.ps _<_ μ-walk t) walk.Pre
+abbrev walk-below : ℕ → In 3 walk-kinds.ps
+walk-below t = and 3 walk-kinds.ps (falls 3 walk-kinds.ps _<_ μ-walk t) walk.Pre
 
 -- What the callees ask and tell.
 abbrev claims : ℕ → walk-lts.Claims
@@ -51,8 +47,7 @@ walk-returns t c =
     let a = s .args in
     let path = s .pre .1 .0 in
     c .response-of .ensures
-    ∙ sym (delay-one (tasksIn (a .periods .now) (a .ranks .now)) (rowsIn (a .starts .now) (a .counts .now) (a .table .now)) (a .chain .now) (a .k) (c .before .if1 .taken)
-    (entry-small (a .ranks .now) (getD (a .chain .now) 0 0) (path .entry 0 (path .some)) .period-positive))
+    ∙ sym (delay-one (a .plan .now) (a .table .now) (a .chain .now) (a .k) (c .before .if1 .taken) (path .entry 0 (path .some) .period-positive))
 
 walk-shared-slice-read-c : (t : ℕ) → walk-lts.Need-shared-slice-read-c (claims t) (walk-at t) walk.Post
 walk-shared-slice-read-c t c = search needs
@@ -84,25 +79,23 @@ module _ (t : ℕ) (c : walk-lts.After-hand-over (claims t) (walk-at t) walk.Pos
   abbrev chain : List ℕ
   chain = start .args .chain .now
 
-  abbrev ts : List Task
-  ts = tasksIn (start .args .periods .now) (start .args .ranks .now)
+  abbrev plan : List ℕ
+  plan = start .args .plan .now
 
-  abbrev rows : Table
-  rows = rowsIn (start .args .starts .now) (start .args .counts .now) (start .args .table .now)
+  abbrev table : List ℕ
+  table = start .args .table .now
 
   more : 1 < length chain
   more = omega (arith, start .pre .1 .0 .some, c .before .before .if1 .left)
 
-  rest-path : ChainIn (start .args .periods .now) (start .args .starts .now) (start .args .counts .now) (start .args .table .now) (restOf chain)
-  rest-path = path-rest (start .args .ranks .now) (start .pre .1 .0) more
+  rest-path : ChainIn plan table (restOf chain)
+  rest-path = path-rest (start .pre .1 .0) more
 
-  next-near : release ts (getD chain 1 0) (c .hand-over .result .job) ≤ release ts (firstOf chain) (start .args .k) + mostWait
-  next-near = omega (
+  next-most : c .hand-over .result .job * periodIn plan (getD chain 1 0) ≤ start .args .k * periodIn plan (firstOf chain) + mostWait
+  next-most = omega (
     arith,
     c .hand-over .ensures .job-is,
-    next-most ts rows (firstOf chain) (getD chain 1 0) (release ts (firstOf chain) (start .args .k))
-        (entry-small (start .args .ranks .now) (firstOf chain) (start .pre .1 .0 .entry 0 (start .pre .1 .0 .some)))
-        (entry-small (start .args .ranks .now) (getD chain 1 0) (start .pre .1 .0 .entry 1 more)),
+    next-near (start .pre .1 .0 .entry 0 (start .pre .1 .0 .some)) (start .pre .1 .0 .entry 1 more) (start .args .k),
   )
 
 walk-walk-requires : (t : ℕ) → walk-lts.Need-walk-requires (claims t) (walk-at t) walk.Post
@@ -113,13 +106,13 @@ walk-walk-requires t c κs =
       omega (arith, length-drop 1 (chain t h), s .pre .0, more t h),
       (
         rest-path t h,
-        rw (getD-drop 1 (chain t h) 0 0) (omega (arith, length-drop 1 (chain t h), s .pre .1 .1, next-near t h)),
+        rw (getD-drop 1 (chain t h) 0 0) (omega (arith, length-drop 1 (chain t h), s .pre .1 .1, next-most t h)),
       ),
     )
 
 walk-is : (t : ℕ) (c : walk-lts.After-struct-known (claims t) (walk-at t) walk.Post)
     → let h = c .before .before .before in
-    c .before .walk .result ≡ delay (ts t h) (rows t h) (firstOf (restOf (chain t h))) (restOf (restOf (chain t h))) (release (ts t h) (firstOf (restOf (chain t h))) (h .hand-over .result .job))
+    c .before .walk .result ≡ delayIn (plan t h) (table t h) (restOf (chain t h)) (h .hand-over .result .job)
 walk-is t c = rw (part-from 1 (chain t (c .before .before .before))) at (c .before .walk .ensures)
 
 walk-add-result : (t : ℕ) → walk-lts.Need-add-result (claims t) (walk-at t) walk.Post
@@ -129,10 +122,10 @@ walk-add-result t c =
     omega (
       arith,
       walk-is t c,
-      path-delay (s .args .ranks .now) (rest-path t h) (release (ts t h) (firstOf (restOf (chain t h))) (h .hand-over .result .job)),
+      path-delay (rest-path t h) (h .hand-over .result .job),
       h .hand-over .ensures .wait-is,
       h .hand-over .ensures .job-is,
-      next-near t h,
+      next-most t h,
       length-drop 1 (chain t h),
       s .pre .1 .1,
     )
@@ -141,7 +134,7 @@ walk-returns-2 : (t : ℕ) → walk-lts.Need-returns-2 (claims t) (walk-at t) wa
 walk-returns-2 t c =
     let h = c .before .before .before in
     ap (λ x. h .hand-over .result .wait + x) (walk-is t c)
-    ∙ sym (delay-more (ts t h) (rows t h) (chain t h) (start t h .args .k) (h .hand-over .result) (more t h) (h .hand-over .ensures))
+    ∙ sym (delay-more (plan t h) (table t h) (chain t h) (start t h .args .k) (h .hand-over .result) (more t h) (h .hand-over .ensures))
 
 pub +walk-spec : {M : Type 1} → statement M
 +walk-spec = close μ-walk λ t. walk-lts.spec (claims t) (walk-at t) walk.Post

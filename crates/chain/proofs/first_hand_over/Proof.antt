@@ -14,7 +14,7 @@ cast-p : tie.Need-cast-p
 cast-p c = omega (arith, c .shared-slice-known3 .given 0)
 
 returns : tie.Need-returns
-returns c = let s = c .before .before .before .before in handed-one (s .args .ranks .now) (s .pre .0) (s .args .k) (c .if1 .taken)
+returns c = let s = c .before .before .before .before in handed-one (s .pre .0) (s .args .k) (c .if1 .taken)
 
 cast-c : tie.Need-cast-c
 cast-c c = omega (arith, c .shared-slice-known4 .given 1)
@@ -27,7 +27,7 @@ hand-over-requires c κs =
 returns-2 : tie.Need-returns-2
 returns-2 c =
     let s = c .before .before .before .before .before .before in
-    handed-more (s .args .ranks .now) (s .pre .0) (s .args .k) (c .hand-over .result) (more (c .before .before)) (c .hand-over .ensures)
+    handed-more (s .pre .0) (s .args .k) (c .hand-over .result) (more (c .before .before)) (c .hand-over .ensures)
 
 pub first-hand-over-spec : {M : Type 1} → statement M
 first-hand-over-spec =

@@ -3,12 +3,11 @@ use mathlib.Core.Path.{_≡_, ap₂, _∙_}
 use Prim.Native.Nat.{ℕ, _+_, _-_, _≤_}
 use native.Mathlib.Nat.{le-of-dvd}
 use native.Mathlib.Omega.{arith}
-use lib.ListN.{getD}
 use borrow.Author.Tests.{lt-ltb, le-ltb}
 use Rattle.arith.specs.Whole.{gcd, up}
 use Rattle.arith.specs.WholeLaws.{gcd-divides-right, gcd-pos, up-near}
-use Rattle.chain.specs.Conditions.{mostWait, greatestIn}
-use Rattle.chain.specs.ReadLaws.{greatest-most, pair-in}
+use Rattle.chain.specs.Conditions.{mostWait, periodIn, greatestIn}
+use Rattle.chain.specs.ReadLaws.{greatest-most}
 use borrow.Author.Needs.{needs}
 use Rattle.chain.proofs.pair_bound.Statement.{statement}
 use Rattle.chain.proofs.pair_bound.Tie as tie
@@ -16,18 +15,18 @@ use Rattle.chain.proofs.pair_bound.Tie as tie
 -- The greatest common divisor of the pair's periods.
 module _ (s : tie.Start) where
   abbrev g : ℕ
-  g = gcd (getD (s .args .periods .now) (s .args .p) 0) (getD (s .args .periods .now) (s .args .c) 0)
+  g = gcd (periodIn (s .args .plan .now) (s .args .p)) (periodIn (s .args .plan .now) (s .args .c))
 
   abbrev R : ℕ
-  R = greatestIn (s .args .starts .now) (s .args .counts .now) (s .args .table .now) (s .args .p)
+  R = greatestIn (s .args .plan .now) (s .args .table .now) (s .args .p)
 
-  g-most : g ≤ getD (s .args .periods .now) (s .args .c) 0
+  g-most : g ≤ periodIn (s .args .plan .now) (s .args .c)
   g-most = le-of-dvd (s .pre .1 .period-positive) (gcd-divides-right _ _)
 
   up-most : up g R ≤ mostWait
   up-most = omega (
     arith,
-    up-near g R (gcd-pos _ (getD (s .args .periods .now) (s .args .c) 0) (s .pre .0 .period-positive)),
+    up-near g R (gcd-pos _ (periodIn (s .args .plan .now) (s .args .c)) (s .pre .0 .period-positive)),
     greatest-most (s .pre .0 .row),
     g-most,
     s .pre .1 .period-most,
@@ -57,18 +56,20 @@ add-ticks c =
 returns : tie.Need-returns
 returns c =
     let s = start c in
-    rw (pair-in (s .args .ranks .now) (s .pre .0) (s .pre .1), lt-ltb _ _ (c .before .before .if1 .taken))
-    (ap₂ (λ x y. (getD (s .args .periods .now) (s .args .c) 0 - x) + y) (divisor c .gcd .ensures) (up-is c))
+    rw (lt-ltb _ _ (c .before .before .if1 .taken))
+    (ap₂ (λ x y. (periodIn (s .args .plan .now) (s .args .c) - x) + y) (divisor c .gcd .ensures) (up-is c))
 
 returns-2 : tie.Need-returns-2
 returns-2 c =
     let s = c .before .before .before .before .before .before .before .before in
-    rw (pair-in (s .args .ranks .now) (s .pre .0) (s .pre .1), le-ltb _ _ (c .if1 .left))
+    rw (le-ltb _ _ (c .if1 .left))
     (omega (arith, c .before .before .before .before .gcd .ensures))
 
 pub pair-bound-spec : {M : Type 1} → statement M
 pair-bound-spec =
     tie.close
-    (tie.spec (λ c. search needs) (λ c. search needs) (λ c. search needs) (λ c. search needs) (λ c κs. search needs)
-    (λ c. search needs) (λ c. search needs) sub-ticks (λ c. search needs) (λ c. search needs) (λ c κs. search needs)
-    (λ c κs. search needs) cast-ticks add-ticks returns returns-2)
+    (tie.spec (λ c. search needs) (λ c. search needs) (λ c. search needs) (λ c. search needs) (λ c. search needs)
+    (λ c. search needs) (λ c κs. search needs) (λ c. search needs) (λ c. search needs) (λ c. search needs) sub-ticks
+    (λ c. search needs) (λ c. search needs) (λ c. search needs) (λ c. search needs) (λ c. search needs)
+    (λ c. search needs) (λ c. search needs) (λ c. search needs) (λ c κs. search needs) (λ c κs. search needs) cast-ticks
+    add-ticks returns returns-2)

@@ -6,24 +6,19 @@ use native.Mathlib.Nat.{mod-eq-of-lt}
 use native.Mathlib.Omega.{arith}
 use lib.ListN.{getD}
 use borrow.Author.Needs.{needs}
+use Rattle.chain.specs.Conditions.{startIn, countIn}
 use Rattle.chain.specs.ReadLaws.{row-place}
 use Rattle.chain.proofs.response_of.Statement.{statement}
 use Rattle.chain.proofs.response_of.Tie as tie
 
-job-is : (c : tie.Joined1) → let a = c .before .before .args in c .if1 .job ≡ a .k % getD (a .counts .now) (a .i) 0
+job-is : (c : tie.Joined1) → let a = c .before .before .args in c .if1 .job ≡ a .k % countIn (a .plan .now) (a .i)
 job-is c = ⊎-elim (λ w. w .1) (λ w. w .1 ∙ sym (mod-eq-of-lt (omega (arith, w .0 .left)))) (c .if1 .came)
 
-place : (c : tie.After-row-known) → let a = c .before .before .before .before .args in c .before .before .if1 .job < getD (a .counts .now) (a .i) 0
+place : (c : tie.After-row-known) → let a = c .before .before .before .before .args in c .before .before .if1 .job < countIn (a .plan .now) (a .i)
 place c = let s = c .before .before .before .before in omega (arith, job-is (c .before .before), row-place (s .pre) (s .args .k))
 
-add-at : tie.Need-add-at
-add-at c = omega (arith, place c, c .before .before .before .before .pre)
-
-cast-result : tie.Need-cast-result
-cast-result c = omega (arith, place c, c .before .before .before .before .pre)
-
-mul-result : tie.Need-mul-result
-mul-result c = omega (arith, place c, c .before .before .before .before .pre)
+add-at-2 : tie.Need-add-at-2
+add-at-2 c = omega (arith, place c, c .before .before .before .before .pre)
 
 shared-slice-read-result : tie.Need-shared-slice-read-result
 shared-slice-read-result c = omega (arith, place (c .before), c .before .before .before .before .before .pre)
@@ -31,10 +26,11 @@ shared-slice-read-result c = omega (arith, place (c .before), c .before .before 
 returns : tie.Need-returns
 returns c =
     let a = c .before .before .before .before .before .args in
-    ap (λ k. getD (a .table .now) (getD (a .starts .now) (a .i) 0 + k) 0) (job-is (c .before .before .before))
+    ap (λ k. getD (a .table .now) (startIn (a .plan .now) (a .i) + k) 0) (job-is (c .before .before .before))
 
 pub response-of-spec : {M : Type 1} → statement M
 response-of-spec =
     tie.close
-    (tie.spec (λ c. search needs) (λ c. search needs) (λ c. search needs) (λ c. search needs) (λ c. search needs) add-at
-    cast-result mul-result shared-slice-read-result returns)
+    (tie.spec (λ c. search needs) (λ c. search needs) (λ c. search needs) (λ c. search needs) (λ c. search needs)
+    (λ c. search needs) (λ c. search needs) (λ c. search needs) (λ c. search needs) add-at-2 (λ c. search needs)
+    (λ c. search needs) shared-slice-read-result returns)

@@ -1,4 +1,4 @@
--- The arrays and the table hold what the sheet's own figure is made of.
+-- The plan and the table hold what the sheet's own figure is made of.
 use mathlib.Core.Path.{_≡_, sym, _∙_}
 use native.Mathlib.Omega.{arith}
 use lib.ListN.{length, length-map}
@@ -7,19 +7,19 @@ use Rattle.sheet.specs.Tasks.{tasksOf, chainOf}
 use Rattle.sheet.specs.TaskLaws.{chain-length}
 use Rattle.chain.specs.Conditions.{TakenChain}
 use Rattle.chain.specs.CallLaws.{sheet-chain}
-use Rattle.chain.specs.ArrayLaws.{arrays-path, arrays-first, arrays-worst}
+use Rattle.chain.specs.FigureLaws.{plan-path, plan-first, plan-worst}
 use Rattle.chain.proofs.worst_in.Statement.{statement}
 use Rattle.chain.proofs.worst_in.Tie as tie
 
--- The start, where the chain is lent, and where the arrays are filled.
+-- The start, where the chain is lent, and where the plan is made.
 abbrev start : tie.After-struct-known → tie.Start
-start c = c .before .before .before .before .before .before .before .before
+start c = c .before .before .before .before
 
-abbrev lending : tie.After-counts2 → tie.After-struct-known
-lending c = c .before .before .before .before .before
+abbrev lending : tie.After-plan → tie.After-struct-known
+lending c = c .before .before
 
-abbrev arrays : tie.After-counts2 → tie.After-gather-tasks
-arrays c = c .before .before .before .before .before .before .before
+abbrev making : tie.After-plan → tie.After-plan-of
+making c = lending c .before .before
 
 -- The chain's places are sixteen, of which the first `length` are lent.
 whole : (c : tie.Start) → length (c .args .s .chain) ≡ 16
@@ -42,14 +42,14 @@ slice-aggregate-worst-along c = sym (lent (start (c .before)))
 worst-along-requires : tie.Need-worst-along-requires
 worst-along-requires c κs =
     let s = start (lending c) in
-    let gathered = arrays c .gather-tasks .ensures in
-    (arrays-path (taken s) (s .pre .1 .1) gathered (omega (arith, lent s, s .pre .0 .0 .length-least)), (omega (arith, lent s, s .pre .0 .0 .length-most, s .pre .0 .0 .count-most), arrays-first (taken s) (s .pre .1 .1) gathered))
+    let planned = making c .plan-of .ensures in
+    (plan-path (taken s) (s .pre .1 .1) planned (omega (arith, lent s, s .pre .0 .0 .length-least)), (omega (arith, lent s, s .pre .0 .0 .length-most, s .pre .0 .0 .count-most), plan-first (taken s) (s .pre .1 .1) planned))
 
 returns : tie.Need-returns
 returns c =
     let s = start (lending (c .before)) in
-    let gathered = arrays (c .before) .gather-tasks .ensures in
-    arrays-worst (taken s) (s .pre .1 .1) gathered (c .worst-along .result) (c .worst-along .ensures)
+    let planned = making (c .before) .plan-of .ensures in
+    plan-worst (taken s) (s .pre .1 .1) planned (c .worst-along .result) (c .worst-along .ensures)
 
 pub worst-in-spec : {M : Type 1} → statement M
 worst-in-spec =

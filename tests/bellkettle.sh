@@ -278,7 +278,8 @@ ends 0 && prints samples/radio.report && started 4
 for signal in HUP:129 INT:130 TERM:143; do
     plant
     PLAY=${signal%:*}
-    try "a build interrupted by $PLAY" report
+    # A shell in the background ignores INT, and so would all that it starts.
+    try "a build interrupted by $PLAY" env --default-signal="$PLAY" "$tree/bellkettle" report "$tree/samples/radio.sheet"
     ends "${signal#*:}" && prints_nothing && says '^bellkettle: interrupted with [01] of 2 crates proved; '
     ! runs "$(cat "$room/sleeper")" || wrong 'every process of the build expected to have ended'
     [ ! -e "$tree/target/bin" ] && [ ! -e "$tree/target/rlib/report.rlib" ] && [ -d "$tree/target/rlib/lower.rlib" ] || wrong 'no half-built program expected, and the proved crate'

@@ -22,3 +22,15 @@ emulator=$kit/on/$(uname -m)/toolchain/bin/qemu-x86_64
 [ -x "$emulator" ] || emulator=
 compiler=x86_64-linux-gnu-gcc
 [ "$(uname -m)" != x86_64 ] || compiler=cc
+
+instructions() { # WORD..: how many this command takes, an x86-64 program; what it writes is dropped
+    if [ -n "$emulator" ]; then
+        trace=$(mktemp -u) && mkfifo "$trace"
+        grep -c ^Trace <"$trace" &
+        "$emulator" -singlestep -d exec,nochain -D "$trace" "$@" >/dev/null
+        wait
+        rm "$trace"
+    else
+        valgrind --tool=callgrind --callgrind-out-file=/dev/null "$@" 2>&1 >/dev/null | sed -n 's/.*Collected : //p'
+    fi
+}

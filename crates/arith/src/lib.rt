@@ -3,12 +3,18 @@
 // name in specs/Promises.antt says; callers go by the laws in specs/WholeLaws.antt and specs/RangeLaws.antt.
 ghost use Rattle.arith.specs.Promises.{GcdPromise, LcmPromise, UpPromise, GreatestPromise, MagnitudePromise};
 
-// The greatest common divisor of a and b, by Euclid's rule asked of a smaller pair (document 01, "Our forms").
-// With 0 it is the other number, and of 0 and 0 it is 0.
+// The greatest common divisor of a and b, by Euclid's rule gone round in place. With 0 it is the other number, and of 0 and 0 it is 0.
 pub fn gcd(a: u32, b: u32) -> u32
     ensures { λ r. ⌜ GcdPromise a b r ⌝ }
 {
-    if b == 0 { a } else { gcd(b, a % b) }
+    let mut divisor = a;
+    let mut rest = b;
+    while rest != 0 {
+        let next = divisor % rest;
+        divisor = rest;
+        rest = next;
+    }
+    divisor
 }
 
 // A least common multiple, or that it is over the limit asked for.

@@ -24,6 +24,11 @@ abbrev pub when : Bool → ℕ → Judgement
 when true number = refused number []
 when false number = fine
 
+-- what was found, a refusal's number with a value
+abbrev pub withValue : ℕ → Judgement → Judgement
+withValue value (given u) = given u
+withValue value (refused number values) = refused number (value ∷ [])
+
 -- "a refusal met on the way is handed up unchanged"
 abbrev pub after : {A B : Type 0} → Answer A → (A → Answer B) → Answer B
 after (given a) next = next a

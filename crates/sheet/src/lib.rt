@@ -244,7 +244,8 @@ fn judge_fields(s: Sheet, len: usize) -> Verdict
         if len < ((end + 7) / 8) as usize {
             return Verdict::No(Refusal::With(1, at));
         }
-        let v = with_offset(judge_field(s, f), at);
+        let found = judge_field(s, f);
+        let v = with_offset(found, at);
         let Verdict::Fine = v else {
             return v;
         };
@@ -366,12 +367,13 @@ fn judge_tail(bytes: &[u8], end: u32) -> Verdict
     ensures { λ r. ⌜ told r ≡ tailOf (now (bytes .entry)) end ⌝ }
 {
     let size = (end + 7) / 8;
-    let wrong = first_one(bytes, end, size * 8);
-    if wrong < size * 8 {
+    let surplus = size * 8;
+    let wrong = first_one(bytes, end, surplus);
+    if wrong < surplus {
         return Verdict::No(Refusal::With(9, wrong));
     }
     if (size as usize) < bytes.len() {
-        return Verdict::No(Refusal::With(9, wrong));
+        return Verdict::No(Refusal::With(9, surplus));
     }
     Verdict::Fine
 }

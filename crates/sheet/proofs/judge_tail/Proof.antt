@@ -1,9 +1,11 @@
 -- The two tests are the definition's, and where no bit is wrong the first wrong one is that of the next byte.
 use mathlib.Core.Path.{sym, ap, _∙_}
 use mathlib.Core.List.{[], _∷_}
+use Prim.Native.Nat.{ℕ, _+_, _-_, _*_, _/_}
 use native.Mathlib.Omega.{arith}
+use Rattle.bits.specs.Bits.{unpack}
 use Rattle.answers.specs.Answers.{refused}
-use Rattle.sheet.specs.TailLaws.{tail-wrong, tail-longer, tail-fine}
+use Rattle.sheet.specs.TailLaws.{first-one-most, tail-wrong, tail-longer, tail-fine}
 use borrow.Author.Needs.{needs}
 use Rattle.sheet.proofs.judge_tail.Statement.{statement}
 use Rattle.sheet.proofs.judge_tail.Tie as tie
@@ -17,7 +19,8 @@ returns c =
 returns-2 : tie.Need-returns-2
 returns-2 c =
     let a = c .before .before .before .before .args in
-    ap (λ k. refused 9 (k ∷ [])) (c .before .before .first-one .ensures) ∙ sym (tail-longer (a .bytes .now) (a .end) (omega arith))
+    let size : ℕ = (a .end + 7) / 8 in
+    ap (λ k. refused 9 (k ∷ [])) {x = size * 8} (omega (arith, c .before .before .first-one .ensures, first-one-most (unpack (a .bytes .now)) (a .end) (size * 8 - a .end))) ∙ sym (tail-longer (a .bytes .now) (a .end) (omega arith))
 
 returns-3 : tie.Need-returns-3
 returns-3 c =
@@ -27,5 +30,5 @@ returns-3 c =
 pub judge-tail-spec : {M : Type 1} → statement M
 judge-tail-spec =
     tie.close
-    (tie.spec (λ c. search needs) (λ c. search needs) (λ c κs. search needs) (λ c. search needs) returns
+    (tie.spec (λ c. search needs) (λ c. search needs) (λ c κs. search needs) returns
     (λ c. search needs) returns-2 returns-3)

@@ -1,6 +1,6 @@
 -- What the bit offset of a refusal is: where the judged field begins, and for 9 the first bit that is wrong.
-use mathlib.Core.Path.{_≡_, refl, sym, ap, _∙_, subst}
-use mathlib.Core.Logic.{_⊎_, inl, inr}
+use mathlib.Core.Path.{_≡_, refl, sym, ap, ap₂, _∙_, subst}
+use mathlib.Core.Logic.{_↔_, _⊎_, inl, inr}
 use mathlib.Core.Bool.{Bool, true, false}
 use mathlib.Core.List.{List, [], _∷_, _++_}
 use Prim.Native.Nat.{ℕ, _+_, _-_, _*_, _≤_, _<_}
@@ -16,10 +16,10 @@ use Rattle.sheet.specs.declared.Sheet.{Sheet}
 use Rattle.sheet.specs.declared.Field.{Field}
 use Rattle.sheet.specs.declared.Field.the-variants.{Count, Period, Budget, Rank, Length, Entry}
 use Rattle.sheet.specs.Fields.{Values, width, widths, place, value, outside, among, judged}
-use Rattle.sheet.specs.Calls.{fieldsOf, judgeOf, endOf, sizeOf, writeOf, sheetOf, judgedWhole, judgedIn, wrongBit, tailOf, readOf}
-use Rattle.sheet.specs.EachLaws.{All, all-map, first-fine}
+use Rattle.sheet.specs.Calls.{fieldsOf, judgeOf, endOf, sizeOf, writeOf, sheetOf, judgedWhole, judgedIn, wrongBit, tailOf, readAs, readOf}
+use Rattle.sheet.specs.EachLaws.{All, all-map, first-fine, all-first}
 use Rattle.sheet.specs.FormatLaws.{InPlace, fields-in-place}
-use Rattle.sheet.specs.TailLaws.{first-one-least, first-one-most, first-one-zeros, first-one-is, tail-fine}
+use Rattle.sheet.specs.TailLaws.{first-one-least, first-one-most, first-one-zeros, first-one-is, tail-wrong, tail-longer, tail-fine, first-one-unique}
 
 -- Of these fields in their order one is refused: those before it are taken, and it begins where they end.
 pub record FieldRefused (judge : Field → Judgement) (fs : List Field) (number : ℕ) (values : List ℕ) : Type 0 where
@@ -31,15 +31,25 @@ pub record FieldRefused (judge : Field → Judgement) (fs : List Field) (number 
   pub wrong : judge field ≡ refused number []
   pub begins : values ≡ widths earlier ∷ []
 
--- What follows the last field is refused: every bit from its end up to the offset is 0, and at the offset there is a bit that is 1, or
--- the first bit of a byte after the last needed.
+-- After a last field that ends at bit `end`, a bit that is 1 before its byte ends, or the first bit of a byte after the last needed.
+abbrev pub WrongAt : List ℕ → ℕ → ℕ → Type 0
+WrongAt bytes end offset = ((offset < bytesFor end * 8) × (bitAt bytes offset ≡ true)) ⊎ ((offset ≡ bytesFor end * 8) × (bytesFor end < length bytes))
+
+-- What follows the last field is refused: the offset is that of such a bit, and every bit from the last field's end up to it is 0.
 pub record TailRefused (bytes : List ℕ) (end number : ℕ) (values : List ℕ) : Type 0 where
   pub offset : ℕ
   pub number-is : number ≡ 9
   pub value-is : values ≡ offset ∷ []
   pub past-the-fields : end ≤ offset
   pub zeros : (k : ℕ) → end ≤ k → k < offset → bitAt bytes k ≡ false
-  pub wrong : ((offset < bytesFor end * 8) × (bitAt bytes offset ≡ true)) ⊎ ((offset ≡ bytesFor end * 8) × (bytesFor end < length bytes))
+  pub wrong : WrongAt bytes end offset
+
+-- Bytes are refused: for a field that they end inside or that is not allowed, or, where all fields are taken, for what follows them.
+abbrev pub ReadRefused : List ℕ → ℕ → List ℕ → Type 0
+ReadRefused bytes number values =
+    let s = sheetOf (unpack bytes) in
+    let judge = judgedWhole (length bytes * 8) s in
+    FieldRefused judge (fieldsOf s) number values ⊎ (All (λ f. judge f ≡ fine) (fieldsOf s) × TailRefused bytes (endOf s) number values)
 
 -- ---- a judgement's number comes alone, and its place with it
 
@@ -132,13 +142,33 @@ module _ (judge : Field → Judgement) (p : Field → ℕ) (alone : (f : Field) 
             ∙ ap (λ k. k ∷ []) (in-place-begins p (x .before) (x .field) (x .after) 0 (subst (InPlace p 0) (x .in-order) h) ∙ omega arith);
       }
 
+  -- and back: where those before a field are taken and it is not, it is the first
+  first-wrong : (xs : List Field) (f : Field) (ys : List Field) (number : ℕ) → All (λ f. judge f ≡ fine) xs → judge f ≡ refused number []
+      → first (λ f. withValue (p f) (judge f)) (xs ++ f ∷ ys) ≡ refused number (p f ∷ [])
+  unfolding first
+  first-wrong [] f ys number a h = ap (λ j. also (withValue (p f) j) (first (λ f. withValue (p f) (judge f)) ys)) h
+  first-wrong (x ∷ xs) f ys number a h =
+      ap (λ j. also (withValue (p x) j) (first (λ f. withValue (p f) (judge f)) (xs ++ f ∷ ys))) (a .0)
+      ∙ first-wrong xs f ys number (a .1) h
+
+  refused-field : (fs : List Field) (number : ℕ) (values : List ℕ) → InPlace p 0 fs → FieldRefused judge fs number values → first (λ f. withValue (p f) (judge f)) fs ≡ refused number values
+  refused-field fs number values h x =
+      ap (first (λ f. withValue (p f) (judge f))) (x .in-order)
+      ∙ first-wrong (x .earlier) (x .field) (x .later) number (x .taken) (x .wrong)
+      ∙ ap (λ k. refused number (k ∷ [])) (in-place-begins p (x .earlier) (x .field) (x .later) 0 (subst (InPlace p 0) (x .in-order) h) ∙ omega arith)
+      ∙ ap (refused number) (sym (x .begins))
+
 -- ---- the calls
 
--- A sheet in memory: the offset that the field would have if written.
-pub judge-offset : (s : Sheet) (number : ℕ) (values : List ℕ) → judgeOf s ≡ refused number values → FieldRefused (judged (value s)) (fieldsOf s) number values
+-- A sheet in memory is refused exactly for the first field that is not allowed, with the offset that it would have if written.
+pub judge-offset : (s : Sheet) (number : ℕ) (values : List ℕ) → (judgeOf s ≡ refused number values) ↔ FieldRefused (judged (value s)) (fieldsOf s) number values
 unfolding judgeOf
-judge-offset s number values e =
-    field-refused (judged (value s)) (place (fieldsOf s)) (judged-alone (value s)) (fieldsOf s) number values (fields-in-place (s .count) (s .length)) e
+judge-offset s number values =
+    let alone = judged-alone (value s) in
+    let in-place = fields-in-place (s .count) (s .length) in (
+      field-refused (judged (value s)) (place (fieldsOf s)) alone (fieldsOf s) number values in-place,
+      refused-field (judged (value s)) (place (fieldsOf s)) alone (fieldsOf s) number values in-place,
+    )
 
 -- The writer's refusal is the same, or 14 without a value.
 pub write-offset : (s : Sheet) (room number : ℕ) (values : List ℕ) → writeOf s room ≡ refused number values
@@ -155,7 +185,7 @@ write-offset s room number values e = go (judgeOf s) refl e
     go (given u) q h = inr (small (ltb room (sizeOf s)) h)
     go (refused n vs) q h =
         let same : _≡_ {A = Judgement} (refused n vs) (refused number values) = cc in
-        inl (judge-offset s number values (q ∙ same))
+        inl (judge-offset s number values .0 (q ∙ same))
 
 -- What follows the last field.
 tail-offset : (bytes : List ℕ) (end number : ℕ) (values : List ℕ) → tailOf bytes end ≡ refused number values → TailRefused bytes end number values
@@ -178,7 +208,7 @@ tail-offset bytes end number values e = go (decLt wrong (bytesFor end * 8)) (dec
     told : (number ≡ 9) × (values ≡ wrong ∷ [])
     told = with9 (ltb wrong (bytesFor end * 8)) (ltb (bytesFor end) (length bytes)) e
 
-    there : ((wrong < bytesFor end * 8) × (bitAt bytes wrong ≡ true)) ⊎ ((wrong ≡ bytesFor end * 8) × (bytesFor end < length bytes)) → TailRefused bytes end number values
+    there : WrongAt bytes end wrong → TailRefused bytes end number values
     there w =
         record {
           offset = wrong;
@@ -194,13 +224,26 @@ tail-offset bytes end number values e = go (decLt wrong (bytesFor end * 8)) (dec
     go (no a) (yes b) = there (inr (omega (arith, first-one-most bs end pad), b))
     go (no a) (no b) = refused-given (sym e ∙ tail-fine bytes end (omega arith) (omega arith))
 
--- Bytes that are read: a field that the bytes end inside or that is not allowed, or, where all fields are taken, what follows them.
-pub read-offset : (bytes : List ℕ) (number : ℕ) (values : List ℕ) → readOf bytes ≡ refused number values
-    → let s = sheetOf (unpack bytes) in
-    let judge = judgedWhole (length bytes * 8) s in
-    FieldRefused judge (fieldsOf s) number values ⊎ (All (λ f. judge f ≡ fine) (fieldsOf s) × TailRefused bytes (endOf s) number values)
+offset-tail : (bytes : List ℕ) (end number : ℕ) (values : List ℕ) → TailRefused bytes end number values → tailOf bytes end ≡ refused number values
+offset-tail bytes end number values x = go (x .wrong) ∙ ap (λ k. refused 9 (k ∷ [])) same ∙ ap₂ refused (sym (x .number-is)) (sym (x .value-is))
+  where
+    pad : ℕ
+    pad = bytesFor end * 8 - end
+
+    either : WrongAt bytes end (x .offset) → ((x .offset < end + pad) × (bitAt bytes (x .offset) ≡ true)) ⊎ (x .offset ≡ end + pad)
+    either (inl (a, b)) = inl (omega arith, b)
+    either (inr (a, b)) = inr (omega arith)
+
+    same : wrongBit (unpack bytes) end ≡ x .offset
+    same = first-one-unique (unpack bytes) end pad (x .offset) (x .past-the-fields) (x .zeros) (either (x .wrong))
+
+    go : WrongAt bytes end (x .offset) → tailOf bytes end ≡ refused 9 (wrongBit (unpack bytes) end ∷ [])
+    go (inl (a, b)) = tail-wrong bytes end (omega (arith, same))
+    go (inr (a, b)) = tail-longer bytes end b
+
+refused-at : (bytes : List ℕ) (number : ℕ) (values : List ℕ) → readOf bytes ≡ refused number values → ReadRefused bytes number values
 unfolding readOf
-read-offset bytes number values e = go (first (judgedIn room s) (fieldsOf s)) refl e
+refused-at bytes number values e = go (first (judgedIn room s) (fieldsOf s)) refl e
   where
     s : Sheet
     s = sheetOf (unpack bytes)
@@ -226,3 +269,27 @@ read-offset bytes number values e = go (first (judgedIn room s) (fieldsOf s)) re
     go (refused n vs) q h =
         let same : _≡_ {A = Judgement} (refused n vs) (refused number values) = cc in
         inl (field-refused judge (place (fieldsOf s)) (whole-alone room s) (fieldsOf s) number values (fields-in-place (s .count) (s .length)) (q ∙ same))
+
+at-refused : (bytes : List ℕ) (number : ℕ) (values : List ℕ) → ReadRefused bytes number values → readOf bytes ≡ refused number values
+unfolding readOf
+at-refused bytes number values r = go r
+  where
+    s : Sheet
+    s = sheetOf (unpack bytes)
+
+    room : ℕ
+    room = length bytes * 8
+
+    go : ReadRefused bytes number values → readAs bytes s ≡ refused number values
+    go (inl x) =
+        ap (λ j. also j (also (tailOf bytes (endOf s)) (given s)))
+        (refused-field (judgedWhole room s) (place (fieldsOf s)) (whole-alone room s) (fieldsOf s) number values (fields-in-place (s .count) (s .length)) x)
+    go (inr (a, x)) =
+        ap₂ (λ j t. also j (also t (given s)))
+        (all-first (judgedIn room s) (fieldsOf s)
+        (all-map (λ f. judgedWhole room s f ≡ fine) (λ f. judgedIn room s f ≡ fine) (fieldsOf s) (λ f. ap (withValue (place (fieldsOf s) f))) a))
+        (offset-tail bytes (endOf s) number values x)
+
+-- Bytes are refused exactly for the first field that they end inside or that is not allowed, or else for what follows the fields.
+pub read-offset : (bytes : List ℕ) (number : ℕ) (values : List ℕ) → (readOf bytes ≡ refused number values) ↔ ReadRefused bytes number values
+read-offset bytes number values = (refused-at bytes number values, at-refused bytes number values)

@@ -1,10 +1,11 @@
 -- Laws of what follows the last field: the first bit that is 1, and what is judged of it.
 use mathlib.Core.Path.{_≡_, refl, ap, ap₂, _∙_}
+use mathlib.Core.Logic.{_⊎_, inl, inr}
 use mathlib.Core.Bool.{Bool, true, false, cond}
 use mathlib.Core.List.{List, [], _∷_}
 use Prim.Native.Nat.{ℕ, zero, suc, _+_, _*_, _≤_, _<_}
 use native.Mathlib.Omega.{arith}
-use native.Mathlib.Decide.{ℕ-discrete}
+use native.Mathlib.Decide.{ℕ-discrete, decLt}
 use lib.Dec.{ltb}
 use lib.ListN.{length, getD}
 use borrow.Author.Tests.{ltb-false, lt-ltb, le-ltb}
@@ -55,6 +56,21 @@ module _ (bs : List Bool) where
           → (firstOne bs (suc at) w < suc at + w → getD bs (firstOne bs (suc at) w) false ≡ true) → getD bs (cond b at (firstOne bs (suc at) w)) false ≡ true
       go true q g later = q
       go false q g later = later (omega arith)
+
+  -- and nothing else is
+  pub first-one-unique : (at w offset : ℕ) → at ≤ offset → ((k : ℕ) → at ≤ k → k < offset → getD bs k false ≡ false)
+      → ((offset < at + w) × (getD bs offset false ≡ true)) ⊎ (offset ≡ at + w) → firstOne bs at w ≡ offset
+  first-one-unique at w offset l zeros there = go (decLt (firstOne bs at w) offset) (decLt offset (firstOne bs at w)) there
+    where
+      both : {A : Type 0} (k : ℕ) → getD bs k false ≡ false → getD bs k false ≡ true → A
+      both k e h = let z : _≡_ {A = ℕ} 0 1 = cc in absurd (omega arith)
+
+      go : Dec (firstOne bs at w < offset) → Dec (offset < firstOne bs at w) → ((offset < at + w) × (getD bs offset false ≡ true)) ⊎ (offset ≡ at + w) → firstOne bs at w ≡ offset
+      go (yes a) b (inl (c, e)) = both (firstOne bs at w) (zeros (firstOne bs at w) (first-one-least at w) a) (first-one-is at w (omega arith))
+      go (yes a) b (inr c) = both (firstOne bs at w) (zeros (firstOne bs at w) (first-one-least at w) a) (first-one-is at w (omega arith))
+      go (no a) (yes b) (inl (c, e)) = both offset (first-one-zeros at w offset l b) e
+      go (no a) (yes b) (inr c) = absurd (omega (arith, first-one-most at w))
+      go (no a) (no b) c = omega arith
 
   -- The number of one bit tells it.
   pub bit-one : (at : ℕ) → 0 < number bs at 1 → getD bs at false ≡ true

@@ -45,7 +45,8 @@ first judge (f ∷ fs) = also (judge f) (first judge fs)
 
 -- ---- the code's refusals
 
--- "A refusal returns its number; 15 also returns the index of the greatest-ranked late task."
+-- "A refusal returns its number", alone or with a value: 1 to 9 "the bit offset where the judged field begins", 15 "the index of the
+-- greatest-ranked late task".
 abbrev pub numberIn : Refusal → ℕ
 numberIn (Number number) = number
 numberIn (With number value) = number

@@ -3,7 +3,7 @@
 use crate::probe::{Call, Handed, Lent, Request, CALLS};
 use crate::random::Random;
 use crate::schedule::sizes;
-use crate::sheet::{encoded, memory, packed, raw_bits, Memory, Task};
+use crate::sheet::{encoded, memory, unjudged, Memory, Task};
 use crate::{arith, chain};
 
 /// Ticks with many divisors, from which periods are taken. The model goes tick by tick, so the last are rare.
@@ -169,8 +169,7 @@ fn any_sheet(r: &mut Random) -> Memory {
 
 fn handed_as_bytes(r: &mut Random) -> Vec<u8> {
     let s = any_sheet(r);
-    let (n, m) = (usize::from(s.count).min(16), usize::from(s.length).min(16));
-    let mut bytes = packed(&raw_bits(s.count.into(), &s.tasks[..n], s.length.into(), &s.chain[..m]));
+    let mut bytes = unjudged(&s);
     if r.one_in(5) {
         damage(r, &mut bytes);
     }

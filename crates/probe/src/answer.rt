@@ -76,7 +76,7 @@ pub fn accepted(out: &mut [u8]) -> usize {
     opening(out, 0, 0)
 }
 
-// The greatest number alone has none above it, and no bit and no task is that.
+// No value is the greatest number of 32 bits, so that one more than it is never cut.
 pub fn refused(out: &mut [u8], r: Refusal) -> usize {
     match r {
         Refusal::Number(n) => opening(out, wide(n), 0),

@@ -133,7 +133,7 @@ fn noise(r: &mut Random, s: &mut Memory) {
     }
 }
 
-/// Cut short, longer, other bytes altogether, a bit of the last byte turned, or some bits anywhere.
+/// Cut short, longer, other bytes altogether, a bit of the last byte turned and perhaps a byte after it, or some bits anywhere.
 fn damage(r: &mut Random, bytes: &mut Vec<u8>) {
     let last = bytes.len() - 1;
     match r.between(0, 5) {
@@ -147,7 +147,10 @@ fn damage(r: &mut Random, bytes: &mut Vec<u8>) {
             let size = r.between(0, 100);
             *bytes = r.bytes(size);
         }
-        4 => bytes[last] ^= 1 << r.between(0, 7),
+        4 => {
+            bytes[last] ^= 1 << r.between(0, 7);
+            bytes.extend(vec![0; r.pick(&[0, 0, 1])]);
+        }
         _ => {
             for _ in 0..r.between(1, 3) {
                 bytes[r.between(0, last as u32) as usize] ^= 1 << r.between(0, 7);

@@ -200,3 +200,33 @@ fn bits_after_the_last_field() {
         assert_eq!(Err(Refusal::with(9, 752)), read(&[&whole, surplus].concat()));
     }
 }
+
+/// Where README.md's table says that a field begins, with i, j, n and m as given.
+fn place_in_readme(field: &str, letters: &[(&str, usize)]) -> usize {
+    let page = include_str!("../../README.md");
+    let (_, section) = page.split_once("\n### Which field begins at a bit\n").expect("the section is there");
+    let row = section.lines().find(|line| line.starts_with(&format!("| {field} | "))).expect(field);
+    let factor = |text: &str| match letters.iter().find(|(letter, _)| *letter == text) {
+        Some((_, value)) => *value,
+        None => text.parse().expect("a letter that is given, or a number"),
+    };
+    let terms = row.split(" | ").nth(1).unwrap().split(" + ");
+    terms.map(|term| term.split('·').map(factor).product::<usize>()).sum()
+}
+
+#[test]
+fn readme_says_the_same_places() {
+    assert_eq!(0, place_in_readme("number of tasks n", &[]));
+    for i in 0..16 {
+        assert_eq!(5 + 42 * i, place_in_readme("period T of task i", &[("i", i)]));
+        assert_eq!(22 + 42 * i, place_in_readme("budget C of task i", &[("i", i)]));
+        assert_eq!(39 + 42 * i, place_in_readme("rank of task i", &[("i", i)]));
+    }
+    for n in 1..=16 {
+        assert_eq!(5 + 42 * n, place_in_readme("chain length m", &[("n", n)]));
+        for j in 0..n {
+            assert_eq!(10 + 42 * n + 4 * j, place_in_readme("chain entry j", &[("n", n), ("j", j)]));
+            assert_eq!(14 + 42 * n + 4 * j, place_in_readme("the bits that fill the last byte", &[("n", n), ("m", j + 1)]));
+        }
+    }
+}

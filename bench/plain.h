@@ -36,14 +36,21 @@ static void refuse(int number) {
     exit(0);
 }
 
+static void refuse_at(int number, uint32_t bit) {
+    printf("refused %d bit %u\n", number, bit);
+    exit(0);
+}
+
+// The bits of a sheet, and where the field that is judged begins.
 struct reader {
     const uint8_t *bytes;
-    uint32_t bits, at;
+    uint32_t bits, at, begin;
 };
 
 static uint32_t field(struct reader *r, uint32_t width) {
+    r->begin = r->at;
     if (r->bits < r->at + width)
-        refuse(1);
+        refuse_at(1, r->begin);
     uint32_t value = 0;
     for (uint32_t end = r->at + width; r->at < end; r->at++)
         value = value * 2 + (r->bytes[r->at / 8] >> (7 - r->at % 8)) % 2;
@@ -54,38 +61,40 @@ static struct task read_task(struct reader *r, const struct sheet *s, uint32_t i
     struct task t;
     t.period = field(r, 17);
     if (t.period == 0 || MOST_PERIOD < t.period)
-        refuse(3);
+        refuse_at(3, r->begin);
     t.budget = field(r, 17);
     if (t.budget == 0 || t.period < t.budget)
-        refuse(4);
+        refuse_at(4, r->begin);
     t.rank = field(r, 8);
     for (uint32_t j = 0; j < i; j++)
         if (s->tasks[j].rank == t.rank)
-            refuse(5);
+            refuse_at(5, r->begin);
     return t;
 }
 
 static void read_sheet(const uint8_t *bytes, uint32_t size, struct sheet *s) {
-    struct reader r = {bytes, size * 8, 0};
+    struct reader r = {bytes, size * 8, 0, 0};
     s->count = field(&r, 5);
     if (s->count == 0 || MOST_TASKS < s->count)
-        refuse(2);
+        refuse_at(2, r.begin);
     for (uint32_t i = 0; i < s->count; i++)
         s->tasks[i] = read_task(&r, s, i);
     s->length = field(&r, 5);
     if (s->length == 0 || s->count < s->length)
-        refuse(6);
+        refuse_at(6, r.begin);
     for (uint32_t i = 0; i < s->length; i++) {
         s->chain[i] = field(&r, 4);
         if (s->count <= s->chain[i])
-            refuse(7);
+            refuse_at(7, r.begin);
         for (uint32_t j = 0; j < i; j++)
             if (s->chain[j] == s->chain[i])
-                refuse(8);
+                refuse_at(8, r.begin);
     }
-    uint32_t end = (r.at + 7) / 8;
-    if (end < size || field(&r, end * 8 - r.at) != 0)
-        refuse(9);
+    while (r.at % 8 != 0)
+        if (field(&r, 1) != 0)
+            refuse_at(9, r.begin);
+    if (r.at < r.bits)
+        refuse_at(9, r.at);
 }
 
 static uint32_t common_divisor(uint32_t a, uint32_t b) {

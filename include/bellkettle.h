@@ -38,11 +38,16 @@
  *
  * What a call leaves in lent memory
  *
- *  - values: the numbers that the call gives, from values[0] on; with 15 the index of the greatest-ranked late task in values[0];
- *    with 1 to 14 nothing is written. A slice that is too short gets as many as it has places for; what is past them is not touched.
+ *  - values: the numbers that the call gives, from values[0] on. With 1 to 9 values[0] is the bit offset at which the judged field
+ *    begins, with 15 the index of the greatest-ranked late task; with 10 to 14 nothing is written. A slice that is too short gets as
+ *    many as it has places for; what is past them is not touched.
  *  - table: with 0 the response of every job, task by task in sheet order, each task's jobs in release order: its row is H/T
  *    entries, straight after the rows before it. With 15 zeros in the first J entries. With 1 to 14 nothing is written. Entries from
  *    J on are never touched. What it held before never matters; BELLKETTLE_TABLE entries are always enough.
+ *
+ * Bits are counted from 0 at the sheet's front, the most significant of each byte first. With 1 the judged field is the one in which
+ * the bytes end; with 9 the offset is the earlier of the first wrong bit and the first bit of the surplus byte. The number of tasks
+ * begins at bit 0, T of task i at 5 + 42 i, C at 22 + 42 i, the rank at 39 + 42 i, m at 5 + 42 n, entry j at 10 + 42 n + 4 j.
  */
 #ifndef BELLKETTLE_H
 #define BELLKETTLE_H
@@ -99,8 +104,8 @@ uint8_t bellkettle_figures(const uint8_t *sheet, size_t sheet_length,
                            int64_t *values, size_t values_length);
 
 /*
- * The fields in a sheet's bytes. values: n and m. Refuses 1 to 9, and then writes nothing. Else task i's period, budget and rank
- * are in periods[i], budgets[i] and ranks[i], the chain's entries in chain[0] to chain[m - 1], and zeros from there on up to the
+ * The fields in a sheet's bytes. values: n and m. Refuses 1 to 9, and then writes the offset alone. Else task i's period, budget and
+ * rank are in periods[i], budgets[i] and ranks[i], the chain's entries in chain[0] to chain[m - 1], and zeros from there on up to the
  * sixteenth place. A slice of fewer than sixteen places gets as many as it has; what is past the sixteenth is not touched.
  */
 uint8_t bellkettle_read(const uint8_t *sheet, size_t sheet_length,
@@ -113,7 +118,8 @@ uint8_t bellkettle_read(const uint8_t *sheet, size_t sheet_length,
 /*
  * The bytes of the sheet with these fields. n is periods_length, which budgets_length and ranks_length must equal: where they do
  * not, n counts as 0 and the refusal is 2. m is chain_length. values: how many bytes the sheet takes, at most BELLKETTLE_SHEET; they
- * stand at the front of out, and out is not touched past them. Refuses 2 to 8, then 14, and then leaves out as it was.
+ * stand at the front of out, and out is not touched past them. Refuses 2 to 8, with the offset that the field would have if written,
+ * then 14, and then leaves out as it was.
  */
 uint8_t bellkettle_write(const uint32_t *periods, size_t periods_length,
                          const uint32_t *budgets, size_t budgets_length,

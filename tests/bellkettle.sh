@@ -99,16 +99,31 @@ while IFS='|' read -r _ number because remedy _; do
     for sheet in samples/refused-"$number"-*.sheet; do
         try "$sheet" ./bellkettle report "$sheet"
         ends 1 && prints "${sheet%.sheet}.report"
-        value=$(sed -n 's/.* task //p' "$room/out")
-        [ "$(cat "$room/err")" = "bellkettle: $sheet: $(echo "$because" | sed "s/task i /task $value /"); $remedy" ] || wrong 'the sentence of the table expected'
+        task=$(sed -n 's/.* task //p' "$room/out")
+        bit=$(sed -n 's/.* bit //p' "$room/out")
+        case $number:$bit in [1-9]:) wrong 'a bit expected' ;; esac
+        place=${bit:+"at bit $bit (bit $((bit % 8)) of byte $((bit / 8)), counted from 0): "}
+        sentence="$(echo "$because" | sed "s/task i /task $task /"); $remedy"
+        [ "$(cat "$room/err")" = "bellkettle: $sheet: $place$sentence" ] || wrong 'the place and the sentence of the table expected'
     done
 done <tools/refusals.txt
 try 'a late task' ./bellkettle report samples/refused-15-late.sheet
 says '^bellkettle: samples/refused-15-late.sheet: task 1 is late: '
+try 'a bad budget' ./bellkettle report samples/refused-4-budget.sheet
+says '^bellkettle: samples/refused-4-budget.sheet: at bit 22 (bit 6 of byte 2, counted from 0): a budget is 0 or over its period; '
 try 'no bytes' sh -c './bellkettle report </dev/null'
-ends 1 && prints samples/refused-1-empty.report && says '^bellkettle: standard input: the bytes end inside a field; '
+ends 1 && prints samples/refused-1-empty.report && says '^bellkettle: standard input: at bit 0 (.*): the bytes end inside a field; '
 try 'bytes without an end' ./bellkettle report /dev/zero
 ends 1 && prints samples/refused-2-count.report
+
+# README's sheet that is mended: its bytes before and after, what is printed of it and what is said.
+try 'the sheet that README mends' ./bellkettle report samples/refused-4-mistyped.sheet
+for sheet in refused-4-mistyped radio; do
+    od -An -v -tx1 "samples/$sheet.sheet" | tr -d '\n' | tr a-f A-F | sed 's/^ //'
+    echo
+done | cat - "$room/out" "$room/err" | while read -r line; do
+    grep -qxF "    $line" README.md || wrong "README.md expected to say: $line"
+done
 
 # Something outside went wrong
 

@@ -1,7 +1,7 @@
 /*
  * A program in C over the library: every function of include/bellkettle.h on the sheets of document 01, on each refusal that can
- * come of it, and on lent memory that is just large enough, too short by one, or empty. Figures are document 01's where it has the
- * sheet.
+ * come of it, at every place where a field can be bad, and on lent memory that is just large enough, too short by one, or empty.
+ * Figures are document 01's where it has the sheet.
  */
 #include "bellkettle.h"
 
@@ -15,6 +15,15 @@
 
 /* The most values that a call gives. */
 #define VALUES 7
+
+/* Where the fields of a sheet with n tasks begin, and that a refusal comes with no bit. */
+#define COUNT_BIT 0
+#define PERIOD_BIT(i) (5 + 42 * (int)(i))
+#define BUDGET_BIT(i) (22 + 42 * (int)(i))
+#define RANK_BIT(i) (39 + 42 * (int)(i))
+#define LENGTH_BIT(n) (5 + 42 * (int)(n))
+#define ENTRY_BIT(n, j) (10 + 42 * (int)(n) + 4 * (int)(j))
+#define NO_BIT (-1)
 
 static unsigned checks;
 
@@ -120,21 +129,29 @@ static void expect_given(const struct fields *f, enum call call, uint32_t number
     expect_marked(f->name, count, jobs);
 }
 
-/* A refusal of 1 to 14 by any of the seven. */
-static void expect_refused(const char *name, enum call call, const uint8_t *sheet, size_t length, uint32_t number, size_t room, uint8_t refusal) {
-    mark();
-    expect(name, "the refusal", ask(call, sheet, length, number, room, VALUES), refusal);
-    expect_marked(name, 0, 0);
+/* With a refusal the bit is the only value, and the table is as it was. */
+static void expect_bit(const char *name, int bit) {
+    if (bit != NO_BIT) {
+        expect(name, "the bit", values[0], bit);
+    }
+    expect_marked(name, bit != NO_BIT ? 1 : 0, 0);
 }
 
-static void expect_all_refuse(const char *name, const uint8_t *sheet, size_t length, size_t room, uint8_t refusal) {
+/* A refusal of 1 to 14 by any of the seven. */
+static void expect_refused(const char *name, enum call call, const uint8_t *sheet, size_t length, uint32_t number, size_t room, uint8_t refusal, int bit) {
+    mark();
+    expect(name, "the refusal", ask(call, sheet, length, number, room, VALUES), refusal);
+    expect_bit(name, bit);
+}
+
+static void expect_all_refuse(const char *name, const uint8_t *sheet, size_t length, size_t room, uint8_t refusal, int bit) {
     for (enum call call = RESPONSES; call <= FIGURES; call++) {
-        expect_refused(name, call, sheet, length, 0, room, refusal);
+        expect_refused(name, call, sheet, length, 0, room, refusal, bit);
     }
 }
 
 /* The fields in a sheet's bytes, in exactly sixteen places each; or none of them. */
-static void expect_read(const char *name, const uint8_t *sheet, size_t length, uint8_t refusal, const struct fields *f) {
+static void expect_read(const char *name, const uint8_t *sheet, size_t length, uint8_t refusal, int bit, const struct fields *f) {
     uint32_t periods[17], budgets[17];
     uint8_t ranks[17], chain[17];
     for (size_t i = 0; i < 17; i++) {
@@ -143,7 +160,6 @@ static void expect_read(const char *name, const uint8_t *sheet, size_t length, u
     }
     mark();
     expect(name, "reading", bellkettle_read(sheet, length, periods, 16, budgets, 16, ranks, 16, chain, 16, values, 2), refusal);
-    expect_marked(name, refusal == 0 ? 2 : 0, 0);
     for (size_t i = 0; i < 17; i++) {
         int given = refusal == 0 && i < 16;
         expect(name, "a period read", periods[i], !given ? MARK : i < f->n ? f->periods[i] : 0);
@@ -154,11 +170,14 @@ static void expect_read(const char *name, const uint8_t *sheet, size_t length, u
     if (refusal == 0) {
         expect(name, "n read", values[0], f->n);
         expect(name, "m read", values[1], f->m);
+        expect_marked(name, 2, 0);
+    } else {
+        expect_bit(name, bit);
     }
 }
 
 /* The bytes of fields, in a buffer of so many. */
-static void expect_written(const struct fields *f, size_t room, uint8_t refusal) {
+static void expect_written(const struct fields *f, size_t room, uint8_t refusal, int bit) {
     struct bytes wanted = pack(f);
     uint8_t out[BELLKETTLE_SHEET + 2];
     memset(out, MARK_BYTE, sizeof out);
@@ -170,19 +189,44 @@ static void expect_written(const struct fields *f, size_t room, uint8_t refusal)
     }
     if (refusal == 0) {
         expect(f->name, "the size written", values[0], (int64_t)size);
+        expect_marked(f->name, 1, 0);
+    } else {
+        expect_bit(f->name, bit);
     }
-    expect_marked(f->name, refusal == 0 ? 1 : 0, 0);
+}
+
+/* A sheet with a bad field, in bytes and in memory. */
+static void expect_bad_field(const struct fields *f, uint8_t refusal, int bit) {
+    struct bytes sheet = pack(f);
+    expect_all_refuse(f->name, sheet.at, size_of(&sheet), 0, refusal, bit);
+    expect_read(f->name, sheet.at, size_of(&sheet), refusal, bit, f);
+    expect_written(f, BELLKETTLE_SHEET, refusal, bit);
+}
+
+/* Where the field begins in which so many bits end. */
+static int field_cut(const struct fields *f, size_t bits) {
+    size_t begin = 0;
+    for (uint32_t field = 0;; field++) {
+        int of_task = 0 < field && field <= 3 * f->n;
+        size_t width = of_task ? (field % 3 == 0 ? 8 : 17) : field == 0 || field == 3 * f->n + 1 ? 5 : 4;
+        if (bits < begin + width) {
+            return (int)begin;
+        }
+        begin += width;
+    }
 }
 
 /* A sheet that is taken, read and written; with its table too small by one entry, every call refuses it. */
 static void expect_sheet(const struct fields *f, size_t jobs) {
     struct bytes sheet = pack(f);
-    expect_read(f->name, sheet.at, size_of(&sheet), 0, f);
-    expect_read(f->name, sheet.at, size_of(&sheet) - 1, 1, f);
-    expect_written(f, size_of(&sheet), 0);
-    expect_written(f, size_of(&sheet) + 1, 0);
-    expect_written(f, size_of(&sheet) - 1, 14);
-    expect_all_refuse(f->name, sheet.at, size_of(&sheet), jobs - 1, 14);
+    expect_read(f->name, sheet.at, size_of(&sheet), 0, NO_BIT, f);
+    for (size_t size = 0; size < size_of(&sheet); size++) {
+        expect_read(f->name, sheet.at, size, 1, field_cut(f, size * 8), f);
+    }
+    expect_written(f, size_of(&sheet), 0, NO_BIT);
+    expect_written(f, size_of(&sheet) + 1, 0, NO_BIT);
+    expect_written(f, size_of(&sheet) - 1, 14, NO_BIT);
+    expect_all_refuse(f->name, sheet.at, size_of(&sheet), jobs - 1, 14, NO_BIT);
 }
 
 static const struct fields trio = {"Trio", 3, {8, 2, 4}, {1, 1, 1}, {1, 3, 2}, 3, {0, 1, 2}};
@@ -239,15 +283,12 @@ static void document_four_to_six(void) {
 
     const uint8_t printed[] = {0x08, 0x00, 0x14, 0x00, 0x0A, 0x02, 0x10};
     expect_sheet(&lone, 1);
-    expect_read("Lone as printed", printed, sizeof printed, 0, &lone);
+    expect_read("Lone as printed", printed, sizeof printed, 0, NO_BIT, &lone);
     expect_given(&lone, WORST, 0, 1, (uint32_t[]){5}, 2, (int64_t[]){5, 0});
     expect_given(&lone, BOUND, 0, 1, (uint32_t[]){5}, 1, (int64_t[]){5});
     expect_given(&lone, FIGURES, 0, 1, (uint32_t[]){5}, 7, (int64_t[]){5, 1, 0, 5, 0, 5, 995});
 
-    struct bytes sheet = pack(&budget_over);
-    expect_all_refuse(budget_over.name, sheet.at, size_of(&sheet), 1, 4);
-    expect_read(budget_over.name, sheet.at, size_of(&sheet), 4, &budget_over);
-    expect_written(&budget_over, BELLKETTLE_SHEET, 4);
+    expect_bad_field(&budget_over, 4, 22);
 }
 
 /* 15 gives the late task and leaves zeros in the first J entries, here 3 and 2. */
@@ -279,45 +320,106 @@ static void document_eight_to_ten(void) {
     expect(most_jobs.name, "J", values[1], 8192);
 
     sheet = pack(&too_long);
-    expect_all_refuse(too_long.name, sheet.at, size_of(&sheet), 0, 10);
+    expect_all_refuse(too_long.name, sheet.at, size_of(&sheet), 0, 10, NO_BIT);
     sheet = pack(&too_many);
-    expect_all_refuse(too_many.name, sheet.at, size_of(&sheet), 0, 11);
+    expect_all_refuse(too_many.name, sheet.at, size_of(&sheet), 0, 11, NO_BIT);
 
     sheet = pack(&lone);
-    expect_all_refuse("no bytes", NULL, 0, 1, 1);
-    expect_read("no bytes", NULL, 0, 1, &lone);
-    expect_all_refuse("one byte more", sheet.at, size_of(&sheet) + 1, 1, 9);
-    expect_read("one byte more", sheet.at, size_of(&sheet) + 1, 9, &lone);
-
-    sheet = pack(&radio);
-    sheet.at[size_of(&sheet) - 1] |= 1;
-    expect_all_refuse("a padding bit", sheet.at, size_of(&sheet), 1, 9);
-    expect_read("a padding bit", sheet.at, size_of(&sheet), 9, &radio);
+    expect_all_refuse("no bytes", NULL, 0, 1, 1, 0);
+    expect_all_refuse("one byte more", sheet.at, size_of(&sheet) + 1, 1, 9, 56);
+    expect_read("one byte more", sheet.at, size_of(&sheet) + 1, 9, 56, &lone);
 }
 
-/* 2 to 8, in bytes and in memory. */
+/* The fields of Radio end at bit 148, its bytes at 152. */
+static void refusals_of_the_end(void) {
+    const struct {
+        const char *name;
+        uint8_t padding, surplus;
+        size_t more;
+        int bit;
+    } refused[] = {
+        {"the first padding bit", 0x08, 0, 0, 148},
+        {"the last padding bit", 0x01, 0, 0, 151},
+        {"two padding bits", 0x05, 0, 0, 149},
+        {"a surplus byte", 0, 0, 1, 152},
+        {"a surplus byte that is not zero", 0, 0x01, 1, 152},
+        {"a padding bit and a surplus byte", 0x02, 0x80, 1, 150},
+    };
+    for (size_t i = 0; i < sizeof refused / sizeof *refused; i++) {
+        struct bytes sheet = pack(&radio);
+        size_t size = size_of(&sheet);
+        sheet.at[size - 1] |= refused[i].padding;
+        sheet.at[size] = refused[i].surplus;
+        expect_all_refuse(refused[i].name, sheet.at, size + refused[i].more, 1, 9, refused[i].bit);
+        expect_read(refused[i].name, sheet.at, size + refused[i].more, 9, refused[i].bit, &radio);
+    }
+}
+
+/* 2 to 8 on small sheets. */
 static void refusals_of_fields(void) {
     const struct {
         uint8_t refusal;
+        int bit;
         struct fields fields;
     } refused[] = {
-        {2, {"no task", 0, {0}, {0}, {0}, 0, {0}}},
-        {3, {"no period", 1, {0}, {1}, {1}, 1, {0}}},
-        {3, {"a period over 100,000", 1, {100001}, {1}, {1}, 1, {0}}},
-        {4, {"no budget", 1, {5}, {0}, {1}, 1, {0}}},
-        {5, {"a rank twice", 2, {5, 6}, {1, 1}, {7, 7}, 1, {0}}},
-        {6, {"no chain", 1, {5}, {1}, {1}, 0, {0}}},
-        {6, {"a chain over n", 1, {5}, {1}, {1}, 2, {0, 0}}},
-        {7, {"an entry that is n", 2, {5, 6}, {1, 1}, {1, 2}, 1, {2}}},
-        {8, {"an entry twice", 2, {5, 6}, {1, 1}, {1, 2}, 2, {1, 1}}},
+        {2, COUNT_BIT, {"no task", 0, {0}, {0}, {0}, 0, {0}}},
+        {3, PERIOD_BIT(0), {"no period", 1, {0}, {1}, {1}, 1, {0}}},
+        {3, PERIOD_BIT(0), {"a period over 100,000", 1, {100001}, {1}, {1}, 1, {0}}},
+        {4, BUDGET_BIT(0), {"no budget", 1, {5}, {0}, {1}, 1, {0}}},
+        {5, RANK_BIT(1), {"a rank twice", 2, {5, 6}, {1, 1}, {7, 7}, 1, {0}}},
+        {6, LENGTH_BIT(1), {"no chain", 1, {5}, {1}, {1}, 0, {0}}},
+        {6, LENGTH_BIT(1), {"a chain over n", 1, {5}, {1}, {1}, 2, {0, 0}}},
+        {7, ENTRY_BIT(2, 0), {"an entry that is n", 2, {5, 6}, {1, 1}, {1, 2}, 1, {2}}},
+        {8, ENTRY_BIT(2, 1), {"an entry twice", 2, {5, 6}, {1, 1}, {1, 2}, 2, {1, 1}}},
     };
     for (size_t i = 0; i < sizeof refused / sizeof *refused; i++) {
-        const struct fields *f = &refused[i].fields;
-        struct bytes sheet = pack(f);
-        expect_all_refuse(f->name, sheet.at, size_of(&sheet), 0, refused[i].refusal);
-        expect_read(f->name, sheet.at, size_of(&sheet), refused[i].refusal, f);
-        expect_written(f, BELLKETTLE_SHEET, refused[i].refusal);
+        expect_bad_field(&refused[i].fields, refused[i].refusal, refused[i].bit);
     }
+}
+
+/* The largest sheet of so many tasks: as many entries. */
+static struct fields of_tasks(const char *name, uint32_t n) {
+    struct fields f = {.name = name, .n = n, .m = n};
+    for (uint8_t i = 0; i < n; i++) {
+        f.periods[i] = 100;
+        f.budgets[i] = 1;
+        f.ranks[i] = f.chain[i] = i;
+    }
+    return f;
+}
+
+/* 3 to 8 at every place of the largest sheets. Four bits hold no entry that is 16: the writer alone can be given that. */
+static void refusals_at_every_place(void) {
+    for (uint32_t i = 0; i < BELLKETTLE_TASKS; i++) {
+        struct fields f = of_tasks("a period of sixteen", 16);
+        f.periods[i] = 0;
+        expect_bad_field(&f, 3, PERIOD_BIT(i));
+        f = of_tasks("a budget of sixteen", 16);
+        f.budgets[i] = 101;
+        expect_bad_field(&f, 4, BUDGET_BIT(i));
+        f = of_tasks("an entry of sixteen", 16);
+        f.chain[i] = 16;
+        expect_written(&f, BELLKETTLE_SHEET, 7, ENTRY_BIT(16, i));
+    }
+    for (uint32_t i = 1; i < BELLKETTLE_TASKS; i++) {
+        struct fields f = of_tasks("a rank of sixteen", 16);
+        f.ranks[i] = f.ranks[i - 1];
+        expect_bad_field(&f, 5, RANK_BIT(i));
+        f = of_tasks("a length", i);
+        f.m = 0;
+        expect_bad_field(&f, 6, LENGTH_BIT(i));
+        f = of_tasks("the last entry", i);
+        f.chain[i - 1] = (uint8_t)i;
+        expect_bad_field(&f, 7, ENTRY_BIT(i, i - 1));
+        f = of_tasks("an entry that comes twice", 16);
+        f.chain[i] = f.chain[0];
+        expect_bad_field(&f, 8, ENTRY_BIT(16, i));
+    }
+    struct fields f = of_tasks("the length of sixteen", 16);
+    f.m = 0;
+    expect_bad_field(&f, 6, LENGTH_BIT(16));
+    f = of_tasks("sixteen", 16);
+    expect_sheet(&f, 16);
 }
 
 /* More tasks or entries than there are places, and slices that are not of one length. */
@@ -329,11 +431,13 @@ static void refusals_of_lengths(void) {
         bytes[i] = (uint8_t)i;
     }
     const uint8_t seventeen[] = {0x88, 0, 0, 0, 0, 0, 0};
-    expect_all_refuse("seventeen tasks", seventeen, sizeof seventeen, 0, 2);
+    expect_all_refuse("seventeen tasks", seventeen, sizeof seventeen, 0, 2, COUNT_BIT);
     expect("seventeen tasks", "writing", bellkettle_write(numbers, 17, numbers, 17, bytes, 17, bytes, 1, out, sizeof out, values, 1), 2);
     expect("257 tasks", "writing", bellkettle_write(numbers, 257, numbers, 257, bytes, 257, bytes, 1, out, sizeof out, values, 1), 2);
     expect("257 entries", "writing", bellkettle_write(numbers, 1, numbers, 1, bytes, 1, bytes, 257, out, sizeof out, values, 1), 6);
+    expect("257 entries", "the bit", values[0], LENGTH_BIT(1));
     expect("a budget missing", "writing", bellkettle_write(numbers, 2, numbers, 1, bytes, 2, bytes, 1, out, sizeof out, values, 1), 2);
+    expect("a budget missing", "the bit", values[0], COUNT_BIT);
     expect("a rank missing", "writing", bellkettle_write(numbers, 2, numbers, 2, bytes, 1, bytes, 1, out, sizeof out, values, 1), 2);
     expect("a rank too many", "writing", bellkettle_write(numbers, 2, numbers, 2, bytes, 3, bytes, 1, out, sizeof out, values, 1), 2);
     expect("nothing", "writing", bellkettle_write(NULL, 0, NULL, 0, NULL, 0, NULL, 0, NULL, 0, NULL, 0), 2);
@@ -345,11 +449,11 @@ static void refusals_of_lengths(void) {
 static void refusals_of_numbers(void) {
     struct bytes sheet = pack(&radio);
     size_t size = size_of(&sheet);
-    expect_refused("a release between two", DELAY, sheet.at, size, 1, 0, 12);
-    expect_refused("a release at H", DELAY, sheet.at, size, 60, 0, 12);
-    expect_refused("a release at the last number", DELAY, sheet.at, size, UINT32_MAX, 18, 12);
-    expect_refused("a limit over the most", MARGIN, sheet.at, size, 4000001, 0, 13);
-    expect_refused("a limit at the last number", MARGIN, sheet.at, size, UINT32_MAX, 18, 13);
+    expect_refused("a release between two", DELAY, sheet.at, size, 1, 0, 12, NO_BIT);
+    expect_refused("a release at H", DELAY, sheet.at, size, 60, 0, 12, NO_BIT);
+    expect_refused("a release at the last number", DELAY, sheet.at, size, UINT32_MAX, 18, 12, NO_BIT);
+    expect_refused("a limit over the most", MARGIN, sheet.at, size, 4000001, 0, 13, NO_BIT);
+    expect_refused("a limit at the last number", MARGIN, sheet.at, size, UINT32_MAX, 18, 13, NO_BIT);
 }
 
 /* A task alone, whose response is its budget, and that over 1,000. */
@@ -371,6 +475,7 @@ static void short_memory(void) {
         expect_given(&radio, FIGURES, 0, 18, NULL, places, (int64_t[]){60, 18, 20, 20, 20, 24});
     }
     expect("nothing lent", "the refusal", bellkettle_worst(sheet.at, size, NULL, 0, NULL, 0), 14);
+    expect("no place for the bit", "the refusal", bellkettle_worst(sheet.at, size - 1, table, 18, NULL, 0), 1);
     expect("no values lent", "the number returned", bellkettle_worst(sheet.at, size, table, 18, NULL, 0), 0);
 
     uint32_t periods[] = {MARK, MARK, MARK};
@@ -386,7 +491,9 @@ int main(void) {
     document_four_to_six();
     document_seven();
     document_eight_to_ten();
+    refusals_of_the_end();
     refusals_of_fields();
+    refusals_at_every_place();
     refusals_of_lengths();
     refusals_of_numbers();
     margin_below_zero();

@@ -24,7 +24,7 @@ for sheet in samples/*.sheet; do
     expect "$sheet" "${sheet%.sheet}.report" "$sheet"
 done
 
-{ cat samples/radio.sheet && head -c 1000000 /dev/zero; } | expect 'a megabyte after a good sheet' samples/refused-9-surplus.report
+{ cat samples/lone.sheet && head -c 1000000 /dev/zero; } | expect 'a megabyte after a good sheet' samples/refused-9-surplus.report
 
 for place in $(seq 0 $(($(wc -c <samples/radio.sheet) - 1))); do
     tail -c +$((place + 1)) samples/radio.sheet | head -c 1

@@ -3,7 +3,7 @@
 use crate::probe::{Call, Handed, Lent, Request, CALLS};
 use crate::random::Random;
 use crate::schedule::sizes;
-use crate::sheet::{encoded, memory, packed, raw_bits, Memory, Task};
+use crate::sheet::{encoded, memory, unjudged, Memory, Task};
 use crate::{arith, chain};
 
 /// Ticks with many divisors, from which periods are taken. The model goes tick by tick, so the last are rare.
@@ -133,7 +133,7 @@ fn noise(r: &mut Random, s: &mut Memory) {
     }
 }
 
-/// Cut short, longer, other bytes altogether, a bit of the last byte turned, or some bits anywhere.
+/// Cut short, longer, other bytes altogether, a bit of the last byte turned and perhaps a byte after it, or some bits anywhere.
 fn damage(r: &mut Random, bytes: &mut Vec<u8>) {
     let last = bytes.len() - 1;
     match r.between(0, 5) {
@@ -147,7 +147,10 @@ fn damage(r: &mut Random, bytes: &mut Vec<u8>) {
             let size = r.between(0, 100);
             *bytes = r.bytes(size);
         }
-        4 => bytes[last] ^= 1 << r.between(0, 7),
+        4 => {
+            bytes[last] ^= 1 << r.between(0, 7);
+            bytes.extend(vec![0; r.pick(&[0, 0, 1])]);
+        }
         _ => {
             for _ in 0..r.between(1, 3) {
                 bytes[r.between(0, last as u32) as usize] ^= 1 << r.between(0, 7);
@@ -169,8 +172,7 @@ fn any_sheet(r: &mut Random) -> Memory {
 
 fn handed_as_bytes(r: &mut Random) -> Vec<u8> {
     let s = any_sheet(r);
-    let (n, m) = (usize::from(s.count).min(16), usize::from(s.length).min(16));
-    let mut bytes = packed(&raw_bits(s.count.into(), &s.tasks[..n], s.length.into(), &s.chain[..m]));
+    let mut bytes = unjudged(&s);
     if r.one_in(5) {
         damage(r, &mut bytes);
     }

@@ -1,5 +1,5 @@
-//! An independent model of document 01, written from its words and not from the crates: bits are text, a schedule goes tick by
-//! tick, multiples and divisors are found by trying.
+//! An independent model of document 01 and of the requests of document 02, written from their words and not from the crates: bits
+//! are text, a schedule goes tick by tick, multiples and divisors are found by trying.
 
 pub mod arith;
 pub mod bits;
@@ -13,23 +13,30 @@ pub mod schedule;
 pub mod sheet;
 pub mod vectors;
 
-/// A number of document 01's table; 15 comes with a task.
+/// A number of document 01's table. 1 to 9 come with the bit at which the judged field begins, 15 with the late task.
 #[derive(Clone, Copy, PartialEq, Eq, Debug)]
 pub struct Refusal {
     pub number: u8,
-    pub task: Option<u8>,
+    pub value: Option<u32>,
+}
+
+impl Refusal {
+    pub fn with(number: u8, value: usize) -> Refusal {
+        Refusal { number, value: Some(value as u32) }
+    }
 }
 
 impl From<u8> for Refusal {
     fn from(number: u8) -> Refusal {
-        Refusal { number, task: None }
+        Refusal { number, value: None }
     }
 }
 
 impl std::fmt::Display for Refusal {
     fn fmt(&self, f: &mut std::fmt::Formatter<'_>) -> std::fmt::Result {
         write!(f, "refused {}", self.number)?;
-        self.task.map_or(Ok(()), |task| write!(f, " task {task}"))
+        let about = if self.number == 15 { "task" } else { "bit" };
+        self.value.map_or(Ok(()), |value| write!(f, " {about} {value}"))
     }
 }
 

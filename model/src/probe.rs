@@ -118,8 +118,7 @@ pub fn words(answer: &[u8]) -> Vec<u32> {
 pub fn readable(answer: &[u8]) -> String {
     let verdict = match words(answer)[..] {
         [_, 0, 0, ..] => "accepted".into(),
-        [_, number, 0, ..] => format!("refused {number}"),
-        [_, number, task, ..] => format!("refused {number} task {}", task - 1),
+        [_, number, value, ..] => Refusal { number: number as u8, value: value.checked_sub(1) }.to_string(),
         _ => "no whole answer".to_string(),
     };
     format!("{verdict}, {}", hex(answer.get(12..).unwrap_or(answer)))
@@ -168,8 +167,8 @@ impl Answer {
     /// As the probe writes it.
     pub fn bytes(&self) -> Vec<u8> {
         let number = self.refusal.map_or(0, |r| r.number);
-        let task = self.refusal.and_then(|r| r.task).map_or(0, |task| task + 1);
-        let front = big_endian(&[number.into(), task.into()]);
+        let value = self.refusal.and_then(|r| r.value).map_or(0, |value| value + 1);
+        let front = big_endian(&[number.into(), value]);
         let rest = [front, big_endian(&self.values), self.lent.clone()].concat();
         [big_endian(&[rest.len() as u32 + 4]), rest].concat()
     }
@@ -206,7 +205,7 @@ fn greatest(w: &Worked) -> Vec<u32> {
 
 fn of_sheet(call: Call, number: u32, s: &Memory, buffer: &mut [u8], table: &mut [u32]) -> Told {
     match call {
-        Judge => Ok(judge(s).map(|_| vec![])?),
+        Judge => judge(s).map(|_| vec![]),
         Write => Ok(long(write(s, buffer)? as u64)),
         Sizes => schedule::sizes(s).map(|z| vec![z.hyperperiod, z.jobs]),
         Responses => schedule::responses(s, table).map(|w| totals(&w)),

@@ -89,7 +89,7 @@ pub fn fill(z: Sizes, table: &mut [u32]) -> Result<Worked, Refusal> {
     };
     if let Some(late) = (0..tasks.len()).filter(|&i| !on_time(i)).max_by_key(|&i| tasks[i].rank) {
         table[..jobs as usize].fill(0);
-        return Err(Refusal { number: 15, task: Some(late as u8) });
+        return Err(Refusal::with(15, late));
     }
     let responses: Vec<Vec<u32>> = (0..tasks.len())
         .map(|i| night.finishes[i].iter().zip(0..).map(|(f, k)| f.unwrap() - k * tasks[i].period).collect())

@@ -1,6 +1,7 @@
 //! The timing sheet: its bits as text, read and judged field by field.
 
 use crate::bits::{bytes_of, text_of};
+use crate::Refusal;
 
 #[derive(Clone, Copy, Default, PartialEq, Eq, Debug)]
 pub struct Task {
@@ -58,105 +59,120 @@ pub fn encoded(tasks: &[Task], chain: &[u8]) -> Vec<u8> {
     packed(&raw_bits(tasks.len() as u32, tasks, chain.len() as u32, chain))
 }
 
+/// The bytes of the fields of a sheet in memory as they stand, allowed or not.
+pub fn unjudged(s: &Memory) -> Vec<u8> {
+    let (n, m) = (usize::from(s.count).min(16), usize::from(s.length).min(16));
+    packed(&raw_bits(s.count.into(), &s.tasks[..n], s.length.into(), &s.chain[..m]))
+}
+
+/// Bits that are read from the front on, and where the last field that was read begins.
 struct Cursor {
     bits: String,
     at: usize,
+    begin: usize,
 }
 
 impl Cursor {
-    fn field(&mut self, width: usize) -> Result<u32, u8> {
+    fn field(&mut self, width: usize) -> Result<u32, Refusal> {
+        self.begin = self.at;
         if self.at + width > self.bits.len() {
-            return Err(1);
+            return Err(Refusal::with(1, self.begin));
         }
         let text = &self.bits[self.at..self.at + width];
         self.at += width;
         Ok(u32::from_str_radix(text, 2).unwrap())
     }
+
+    /// The last field that was read is judged.
+    fn refuse_if(&self, bad: bool, number: u8) -> Result<(), Refusal> {
+        if bad {
+            return Err(Refusal::with(number, self.begin));
+        }
+        Ok(())
+    }
+
+    /// "the earlier of the first wrong bit and the surplus byte's first"
+    fn end(&self) -> Result<(), Refusal> {
+        let wrong = self.bits[self.at..].find('1').map(|k| self.at + k);
+        let needed = (self.at..).find(|end| end % 8 == 0).unwrap();
+        let surplus = Some(needed).filter(|&end| end < self.bits.len());
+        match wrong.into_iter().chain(surplus).min() {
+            Some(bit) => Err(Refusal::with(9, bit)),
+            None => Ok(()),
+        }
+    }
 }
 
-/// The sheet in these bytes, or the number of the first refusal.
-pub fn read(bytes: &[u8]) -> Result<Memory, u8> {
-    let mut c = Cursor { bits: text_of(bytes), at: 0 };
+/// The sheet in these bytes, or the first refusal.
+pub fn read(bytes: &[u8]) -> Result<Memory, Refusal> {
+    let mut c = Cursor { bits: text_of(bytes), at: 0, begin: 0 };
     let n = c.field(5)?;
-    if n == 0 || n > 16 {
-        return Err(2);
-    }
+    c.refuse_if(n == 0 || n > 16, 2)?;
     let mut tasks: Vec<Task> = Vec::new();
     for _ in 0..n {
         let period = c.field(17)?;
-        if period == 0 || period > 100_000 {
-            return Err(3);
-        }
+        c.refuse_if(period == 0 || period > 100_000, 3)?;
         let budget = c.field(17)?;
-        if budget == 0 || budget > period {
-            return Err(4);
-        }
+        c.refuse_if(budget == 0 || budget > period, 4)?;
         let rank = c.field(8)? as u8;
-        if tasks.iter().any(|t| t.rank == rank) {
-            return Err(5);
-        }
+        c.refuse_if(tasks.iter().any(|t| t.rank == rank), 5)?;
         tasks.push(Task { period, budget, rank });
     }
     let m = c.field(5)?;
-    if m == 0 || m > n {
-        return Err(6);
-    }
+    c.refuse_if(m == 0 || m > n, 6)?;
     let mut chain: Vec<u8> = Vec::new();
     for _ in 0..m {
         let e = c.field(4)? as u8;
-        if u32::from(e) >= n {
-            return Err(7);
-        }
-        if chain.contains(&e) {
-            return Err(8);
-        }
+        c.refuse_if(u32::from(e) >= n, 7)?;
+        c.refuse_if(chain.contains(&e), 8)?;
         chain.push(e);
     }
-    let rest = &c.bits[c.at..];
-    if rest.contains('1') || rest.len() >= 8 {
-        return Err(9);
-    }
+    c.end()?;
     Ok(memory(&tasks, &chain))
 }
 
-/// A sheet in memory judged for 2 to 8.
-pub fn judge(s: &Memory) -> Result<(), u8> {
-    let n = s.count as usize;
-    if n == 0 || n > 16 {
-        return Err(2);
+/// The bits of fields that were judged. "Sheets in memory report the offset the field would have if written": so many are before it.
+struct Draft {
+    bits: String,
+}
+
+impl Draft {
+    fn field(&mut self, value: u32, width: usize, faults: &[(bool, u8)]) -> Result<(), Refusal> {
+        if let Some((_, number)) = faults.iter().find(|(bad, _)| *bad) {
+            return Err(Refusal::with(*number, self.bits.len()));
+        }
+        self.bits += &bits_of(value, width);
+        Ok(())
     }
+}
+
+/// The bits of a sheet in memory, or the first refusal of 2 to 8.
+fn drafted(s: &Memory) -> Result<String, Refusal> {
+    let mut draft = Draft { bits: String::new() };
+    let (n, m) = (usize::from(s.count), usize::from(s.length));
+    draft.field(s.count.into(), 5, &[(n == 0 || n > 16, 2)])?;
     for (i, t) in s.tasks[..n].iter().enumerate() {
-        if t.period == 0 || t.period > 100_000 {
-            return Err(3);
-        }
-        if t.budget == 0 || t.budget > t.period {
-            return Err(4);
-        }
-        if s.tasks[..i].iter().any(|u| u.rank == t.rank) {
-            return Err(5);
-        }
+        draft.field(t.period, 17, &[(t.period == 0 || t.period > 100_000, 3)])?;
+        draft.field(t.budget, 17, &[(t.budget == 0 || t.budget > t.period, 4)])?;
+        draft.field(t.rank.into(), 8, &[(s.tasks[..i].iter().any(|u| u.rank == t.rank), 5)])?;
     }
-    let m = s.length as usize;
-    if m == 0 || m > n {
-        return Err(6);
-    }
+    draft.field(s.length.into(), 5, &[(m == 0 || m > n, 6)])?;
     for (i, &e) in s.chain[..m].iter().enumerate() {
-        if usize::from(e) >= n {
-            return Err(7);
-        }
-        if s.chain[..i].contains(&e) {
-            return Err(8);
-        }
+        draft.field(e.into(), 4, &[(usize::from(e) >= n, 7), (s.chain[..i].contains(&e), 8)])?;
     }
-    Ok(())
+    Ok(draft.bits)
+}
+
+/// A sheet in memory judged for 2 to 8.
+pub fn judge(s: &Memory) -> Result<(), Refusal> {
+    drafted(s).map(|_| ())
 }
 
 /// What the writer answers and leaves in a buffer.
-pub fn write(s: &Memory, buffer: &mut [u8]) -> Result<usize, u8> {
-    judge(s)?;
-    let bytes = encoded(&s.tasks[..s.count as usize], &s.chain[..s.length as usize]);
+pub fn write(s: &Memory, buffer: &mut [u8]) -> Result<usize, Refusal> {
+    let bytes = packed(&drafted(s)?);
     if buffer.len() < bytes.len() {
-        return Err(14);
+        return Err(14.into());
     }
     buffer[..bytes.len()].copy_from_slice(&bytes);
     Ok(bytes.len())

@@ -1,9 +1,10 @@
 //! Requests that are always made of the probe: document 01's sheets, both ends of each range, every place where bytes may end, each
-//! refusal alone and beside another, tables and buffers that are too short by one, exact and longer, and every call on every sample.
+//! refusal alone, at the first and at the last place where it can occur, and beside another, tables and buffers that are too short by
+//! one, exact and longer, and every call on every sample and on every bad field in memory.
 
 use crate::probe::{Call, Handed, Lent, Request};
 use crate::schedule::{responses, sizes};
-use crate::sheet::{encoded, memory, packed, raw_bits, read, Memory, Task};
+use crate::sheet::{encoded, memory, packed, raw_bits, read, unjudged, Memory, Task};
 use Call::*;
 
 pub fn requests() -> Vec<Request> {
@@ -67,7 +68,7 @@ fn numbers_and_bits() -> Vec<Request> {
 // Readings: what the bytes hold, and where they are accepted the judgement of the sheet and its bytes written again
 
 fn readings() -> Vec<Request> {
-    let bytes = [document(), ends_of_ranges(), where_bytes_end(), two_faults()].concat();
+    let bytes = [document(), ends_of_ranges(), where_bytes_end(), bad_fields().iter().map(unjudged).collect(), two_faults()].concat();
     bytes.into_iter().flat_map(reading).collect()
 }
 
@@ -146,18 +147,46 @@ fn where_bytes_end() -> Vec<Vec<u8>> {
     let mut sheets: Vec<Vec<u8>> = (0..=long.len()).map(|n| long[..n].to_vec()).collect();
     sheets.push([&long[..], &[0]].concat());
     sheets.push([&long[..], &[0, 1]].concat());
-    // Sheets with 0, 2, 4 and 6 spare bits: each of them set, alone.
-    for (n, m) in [(1, 1), (2, 1), (2, 2), (3, 1), (3, 3), (4, 2)] {
+    // Sheets with 0, 2, 4 and 6 spare bits: each of them set, alone and before a surplus byte.
+    for (n, m) in [(1, 1), (2, 1), (2, 2), (3, 1), (3, 3), (4, 2), (16, 16)] {
         let chain: Vec<u8> = (0..m).collect();
         let bits = raw_bits(n, &tasks(n), m.into(), &chain);
         let spare = (8 - bits.len() % 8) % 8;
         sheets.push(packed(&bits));
         for k in 0..spare {
-            sheets.push(packed(&(bits.clone() + &"0".repeat(k) + "1" + &"0".repeat(spare - k - 1))));
+            let wrong = packed(&(bits.clone() + &"0".repeat(k) + "1" + &"0".repeat(spare - k - 1)));
+            sheets.extend([wrong.clone(), [wrong, vec![0]].concat()]);
         }
         sheets.push([&packed(&bits)[..], &[128]].concat());
     }
     sheets
+}
+
+/// Each of 2 to 8 at the first place and at the last where it can occur, on sheets whose chain is as long as it can be.
+fn bad_fields() -> Vec<Memory> {
+    let sheet = |n: u32, spoil: fn(&mut Memory)| {
+        let mut s = memory(&tasks(n), &(0..n as u8).collect::<Vec<_>>());
+        spoil(&mut s);
+        s
+    };
+    vec![
+        sheet(1, |s| s.count = 0),
+        sheet(16, |s| s.count = 17),
+        sheet(1, |s| s.tasks[0].period = 0),
+        sheet(16, |s| s.tasks[15].period = 100_001),
+        sheet(1, |s| s.tasks[0].budget = 0),
+        sheet(16, |s| s.tasks[15].budget = 100_000),
+        sheet(2, |s| s.tasks[1].rank = s.tasks[0].rank),
+        sheet(16, |s| s.tasks[15].rank = s.tasks[14].rank),
+        sheet(1, |s| s.length = 0),
+        sheet(16, |s| s.length = 17),
+        sheet(1, |s| s.chain[0] = 1),
+        sheet(15, |s| s.chain[14] = 15),
+        // In memory alone: four bits would hold 0.
+        sheet(16, |s| s.chain[15] = 16),
+        sheet(2, |s| s.chain[1] = 0),
+        sheet(16, |s| s.chain[15] = 14),
+    ]
 }
 
 /// Two faults on one sheet: the field that comes first counts, and in one field the end of the bytes.
@@ -381,7 +410,8 @@ fn samples() -> Vec<Request> {
     let radio = sheet(&[(20, 5, 1), (6, 1, 3), (12, 3, 2)], &[2, 1]);
     let noisy = Memory { chain: [2, 1, 9, 9, 9, 9, 9, 9, 9, 9, 9, 9, 9, 9, 9, 255], ..radio };
     let bytes = names.iter().map(|path| Handed::Bytes(std::fs::read(path).unwrap()));
-    let sheets = bytes.chain([noisy, Memory::default()].map(Handed::Memory));
+    let in_memory = [noisy, Memory::default()].into_iter().chain(bad_fields());
+    let sheets = bytes.chain(in_memory.map(Handed::Memory));
     sheets.flat_map(|s| every_call(&s)).collect()
 }
 

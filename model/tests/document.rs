@@ -1,9 +1,10 @@
-//! The model against the figures that document 01 prints.
+//! The model against the figures that document 01 prints and the places that document 02 names.
 
 use model::chain::{bound, delay, margin, worst};
 use model::report::report;
 use model::schedule::{night, responses};
-use model::sheet::{encoded, memory, read, Memory, Task};
+use model::sheet::{encoded, judge, memory, read, unjudged, write, Memory, Task};
+use model::Refusal;
 
 fn sheet(tasks: &[(u32, u32, u8)], chain: &[u8]) -> Memory {
     let tasks: Vec<Task> = tasks.iter().map(|&(period, budget, rank)| Task { period, budget, rank }).collect();
@@ -61,16 +62,14 @@ fn the_others() {
     assert_eq!(Ok((5, 0)), worst(&lone, &mut table));
     assert_eq!(Ok(5), bound(&lone, &mut table));
     assert_eq!(vec![0x08, 0x00, 0x14, 0x00, 0x0A, 0x02, 0x10], encoded(&lone.tasks[..1], &[0]));
-    assert_eq!(Err(4), read(&encoded(&sheet(&[(5, 6, 1)], &[0]).tasks[..1], &[0])));
     let late = responses(&sheet(&[(2, 1, 2), (3, 2, 1)], &[0]), &mut table).err().unwrap();
-    assert_eq!((15, Some(1)), (late.number, late.task));
+    assert_eq!((15, Some(1)), (late.number, late.value));
     assert_eq!([0, 0, 0, 0, 0, 1], [table[0], table[1], table[2], table[3], table[4], table[5]]);
     let pair = |a, b| responses(&sheet(&[(a, 1, 2), (b, 1, 1)], &[0]), &mut [0; 9_000]);
     assert_eq!(999_000, pair(1_000, 999).unwrap().hyperperiod);
-    assert_eq!(10, pair(1_000, 1_001).err().unwrap().number);
+    assert_eq!(Some(10.into()), pair(1_000, 1_001).err());
     assert_eq!(8_192, pair(2, 16_382).unwrap().jobs);
-    assert_eq!(11, pair(2, 16_384).err().unwrap().number);
-    assert_eq!(Err(1), read(&[]));
+    assert_eq!(Some(11.into()), pair(2, 16_384).err());
 }
 
 #[test]
@@ -86,4 +85,148 @@ bound 24
 margin 980
 ";
     assert_eq!(expected, report(&encoded(&sheet(RADIO, &[]).tasks[..3], &[0, 1, 2])));
+}
+
+#[test]
+fn refusals_in_the_report() {
+    let lone = [0x08, 0x00, 0x14, 0x00, 0x0A, 0x02, 0x10];
+    let late = sheet(&[(2, 1, 2), (3, 2, 1)], &[]);
+    let long = sheet(&[(1_000, 1, 2), (1_001, 1, 1)], &[]);
+    assert_eq!("refused 1 bit 0\n", report(&[]));
+    assert_eq!("refused 4 bit 22\n", report(&encoded(&sheet(&[(5, 6, 1)], &[]).tasks[..1], &[0])));
+    assert_eq!("refused 9 bit 56\n", report(&[&lone[..], &[0]].concat()));
+    assert_eq!("refused 10\n", report(&encoded(&long.tasks[..2], &[0])));
+    assert_eq!("refused 15 task 1\n", report(&encoded(&late.tasks[..2], &[0])));
+}
+
+/// The sixteen tasks and the chain of sixteen in which one field is then made bad.
+fn largest() -> Memory {
+    let tasks: Vec<_> = (0..16).map(|i| (100, 10, i)).collect();
+    sheet(&tasks, &(0..16).collect::<Vec<_>>())
+}
+
+/// The same refusal in memory, by the writer, which leaves its buffer, and of the bytes.
+fn refused(s: &Memory, number: u8, bit: usize) {
+    refused_in_memory(s, number, bit);
+    assert_eq!(Err(Refusal::with(number, bit)), read(&unjudged(s)));
+}
+
+fn refused_in_memory(s: &Memory, number: u8, bit: usize) {
+    let mut buffer = [7; 100];
+    assert_eq!(Err(Refusal::with(number, bit)), judge(s));
+    assert_eq!(Err(Refusal::with(number, bit)), write(s, &mut buffer));
+    assert_eq!([7; 100], buffer);
+}
+
+/// "count at 0, T of task i at 5 + 42·i, C at 22 + 42·i, rank at 39 + 42·i"
+#[test]
+fn bits_of_tasks() {
+    for count in [0, 17, 31] {
+        refused(&Memory { count, ..largest() }, 2, 0);
+    }
+    for i in 0..16 {
+        let with = |period, budget, rank| {
+            let mut s = largest();
+            s.tasks[i] = Task { period, budget, rank };
+            s
+        };
+        refused(&with(0, 10, 200), 3, 5 + 42 * i);
+        refused(&with(100_001, 10, 200), 3, 5 + 42 * i);
+        refused(&with(100, 0, 200), 4, 22 + 42 * i);
+        refused(&with(100, 101, 200), 4, 22 + 42 * i);
+        // The 17 bits of these numbers would be allowed.
+        refused_in_memory(&with(131_072 + 100, 10, 200), 3, 5 + 42 * i);
+        refused_in_memory(&with(100, 131_072 + 10, 200), 4, 22 + 42 * i);
+        if i > 0 {
+            refused(&with(100, 10, i as u8 - 1), 5, 39 + 42 * i);
+        }
+    }
+}
+
+/// "chain length at 5 + 42·n, entry j at 10 + 42·n + 4·j"
+#[test]
+fn bits_of_chains() {
+    for n in 1..=16 {
+        let some = Memory { count: n as u8, length: n as u8, ..largest() };
+        for length in [0, n as u8 + 1, 31] {
+            refused(&Memory { length, ..some }, 6, 5 + 42 * n);
+        }
+        for j in 0..n {
+            let with = |entry: usize| {
+                let mut s = some;
+                s.chain[j] = entry as u8;
+                s
+            };
+            if n < 16 {
+                refused(&with(n), 7, 10 + 42 * n + 4 * j);
+            }
+            refused_in_memory(&with(16), 7, 10 + 42 * n + 4 * j);
+            if j > 0 {
+                refused(&with(j - 1), 8, 10 + 42 * n + 4 * j);
+            }
+        }
+    }
+}
+
+/// The field in which the bytes end: of all places where a field begins the last that leaves it too few.
+#[test]
+fn bits_of_ends() {
+    let whole = unjudged(&largest());
+    let mut begins: Vec<usize> = (0..16).flat_map(|i| [5, 22, 39].map(|k| k + 42 * i)).chain([0, 677]).collect();
+    begins.extend((0..16).map(|j| 682 + 4 * j));
+    begins.sort();
+    let ends: Vec<usize> = begins[1..].iter().copied().chain([746]).collect();
+    for size in 0..94 {
+        let cut = begins.iter().zip(&ends).find(|(_, end)| 8 * size < **end).unwrap();
+        assert_eq!(Err(Refusal::with(1, *cut.0)), read(&whole[..size]), "{size} bytes");
+    }
+    assert_eq!(Ok(largest()), read(&whole));
+}
+
+/// Its fields end at 746, its bytes at 752: "the earlier of the first wrong bit and the first bit of the surplus byte".
+#[test]
+fn bits_after_the_last_field() {
+    let whole = unjudged(&largest());
+    for bit in 746..752 {
+        for later in bit..752 {
+            let mut wrong = whole.clone();
+            wrong[93] |= 128 >> (bit % 8) | 128 >> (later % 8);
+            for surplus in [&[][..], &[0], &[128], &[1, 0]] {
+                assert_eq!(Err(Refusal::with(9, bit)), read(&[&wrong, surplus].concat()));
+            }
+        }
+    }
+    for surplus in [&[0][..], &[128], &[1], &[0, 1], &[0; 4_000]] {
+        assert_eq!(Err(Refusal::with(9, 752)), read(&[&whole, surplus].concat()));
+    }
+}
+
+/// Where README.md's table says that a field begins, with i, j, n and m as given.
+fn place_in_readme(field: &str, letters: &[(&str, usize)]) -> usize {
+    let page = include_str!("../../README.md");
+    let (_, section) = page.split_once("\n### Which field begins at a bit\n").expect("the section is there");
+    let row = section.lines().find(|line| line.starts_with(&format!("| {field} | "))).expect(field);
+    let factor = |text: &str| match letters.iter().find(|(letter, _)| *letter == text) {
+        Some((_, value)) => *value,
+        None => text.parse().expect("a letter that is given, or a number"),
+    };
+    let terms = row.split(" | ").nth(1).unwrap().split(" + ");
+    terms.map(|term| term.split('·').map(factor).product::<usize>()).sum()
+}
+
+#[test]
+fn readme_says_the_same_places() {
+    assert_eq!(0, place_in_readme("number of tasks n", &[]));
+    for i in 0..16 {
+        assert_eq!(5 + 42 * i, place_in_readme("period T of task i", &[("i", i)]));
+        assert_eq!(22 + 42 * i, place_in_readme("budget C of task i", &[("i", i)]));
+        assert_eq!(39 + 42 * i, place_in_readme("rank of task i", &[("i", i)]));
+    }
+    for n in 1..=16 {
+        assert_eq!(5 + 42 * n, place_in_readme("chain length m", &[("n", n)]));
+        for j in 0..n {
+            assert_eq!(10 + 42 * n + 4 * j, place_in_readme("chain entry j", &[("n", n), ("j", j)]));
+            assert_eq!(14 + 42 * n + 4 * j, place_in_readme("the bits that fill the last byte", &[("n", n), ("m", j + 1)]));
+        }
+    }
 }

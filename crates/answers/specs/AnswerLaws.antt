@@ -8,7 +8,7 @@ use Rattle.answers.specs.declared.Refusal.{Refusal}
 use Rattle.answers.specs.declared.Refusal.the-variants.{Number, With}
 use Rattle.answers.specs.declared.Verdict.{Verdict}
 use Rattle.answers.specs.declared.Verdict.the-variants.{Fine, No}
-use Rattle.answers.specs.Answers.{Answer, given, refused, Judgement, fine, when, after, also, refusal, told, refusalIn}
+use Rattle.answers.specs.Answers.{Answer, given, refused, Judgement, fine, when, withValue, after, also, refusal, told, refusalIn}
 
 -- What is refused is not given.
 pub refused-given : {A B : Type 0} {number : ℕ} {values : List ℕ} {a : A} → _≡_ {A = Answer A} (refused number values) (given a) → B
@@ -26,6 +26,11 @@ also-given (refused number values) a e = refused-given e
 pub when-fine : (b : Bool) (number : ℕ) → when b number ≡ fine → b ≡ false
 when-fine true number e = refused-given e
 when-fine false number e = refl
+
+-- A value changes nothing where there is no refusal.
+pub with-value-fine : (value : ℕ) (j : Judgement) → withValue value j ≡ fine → j ≡ fine
+with-value-fine value (given u) e = refl
+with-value-fine value (refused number values) e = refused-given e
 
 -- ---- a verdict, and what would come after it
 

@@ -24,6 +24,11 @@ abbrev pub when : Bool → ℕ → Judgement
 when true number = refused number []
 when false number = fine
 
+-- what was found, a refusal's number with a value
+abbrev pub withValue : ℕ → Judgement → Judgement
+withValue value (given u) = given u
+withValue value (refused number values) = refused number (value ∷ [])
+
 -- "a refusal met on the way is handed up unchanged"
 abbrev pub after : {A B : Type 0} → Answer A → (A → Answer B) → Answer B
 after (given a) next = next a
@@ -40,7 +45,8 @@ first judge (f ∷ fs) = also (judge f) (first judge fs)
 
 -- ---- the code's refusals
 
--- "A refusal returns its number; 15 also returns the index of the greatest-ranked late task."
+-- "A refusal returns its number", alone or with a value: 1 to 9 "the bit offset where the judged field begins", 15 "the index of the
+-- greatest-ranked late task".
 abbrev pub numberIn : Refusal → ℕ
 numberIn (Number number) = number
 numberIn (With number value) = number

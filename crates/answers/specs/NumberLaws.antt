@@ -4,7 +4,7 @@ use mathlib.Core.Bool.{Bool, true, false}
 use mathlib.Core.List.{List, [], _∷_}
 use Prim.Native.Nat.{ℕ, _≤_}
 use native.Mathlib.Omega.{arith}
-use Rattle.answers.specs.Answers.{Answer, given, refused, Judgement, when, after, also, first}
+use Rattle.answers.specs.Answers.{Answer, given, refused, Judgement, when, withValue, after, also, first}
 use Rattle.answers.specs.AnswerLaws.{refused-given}
 
 -- Where an answer is refused, the number is at least low and at most high.
@@ -31,6 +31,10 @@ module _ {low high : ℕ} where
   pub when-numbered : (b : Bool) (number : ℕ) → low ≤ number → number ≤ high → Numbered low high (when b number)
   when-numbered true number l h = refused-numbered number [] l h
   when-numbered false number l h = given-numbered tt
+
+  pub with-value-numbered : (value : ℕ) {j : Judgement} → Numbered low high j → Numbered low high (withValue value j)
+  with-value-numbered value {j = given u} n = given-numbered u
+  with-value-numbered value {j = refused number values} n = refused-numbered number (value ∷ []) (n .least refl) (n .most refl)
 
   pub after-numbered : {A B : Type 0} {a : Answer A} {next : A → Answer B} → Numbered low high a → ((x : A) → Numbered low high (next x)) → Numbered low high (after a next)
   after-numbered {a = given x} n m = m x

@@ -2,7 +2,7 @@
 // refusals up as they are; how the enums read as document 01's answers is defined in specs/Answers.antt.
 ghost use Rattle.answers.specs.Promises.{RefusalOfPromise};
 
-// A number of document 01's table, alone or with a value: 15 comes with the late task.
+// A number of document 01's table, alone or with a value: 1 to 9 come with the bit at which the judged field begins, 15 with the late task.
 pub enum Refusal {
     Number(u8),
     With(u8, u32),

@@ -62,7 +62,7 @@ fn wide_signed(z: i32) -> i64
     z as i64
 }
 
-// "A refusal returns its number; 15 also returns the index of the greatest-ranked late task."
+// "A refusal returns its number", and the value that comes with it: of 1 to 9 the bit at which the judged field begins, of 15 the late task.
 fn refuse(r: Refusal) -> Reply
     ensures { λ reply. ⌜ Tells reply (refusal r) ⌝ }
 {

@@ -14,7 +14,7 @@ use Rattle.theory.specs.Analysis.Clearing.{clearing}
 use Rattle.theory.specs.Model.Chain.{worst, worstRelease, bound}
 use Rattle.sheet.specs.declared.Sheet.{Sheet}
 use Rattle.answers.specs.Answers.{Answer, given, refused, first}
-use Rattle.sheet.specs.Fields.{taskFields, entryFields, among}
+use Rattle.sheet.specs.Fields.{taskFields, entryFields, place, among}
 use Rattle.sheet.specs.Calls.{places, judgeOf}
 use Rattle.sheet.specs.Tasks.{tasksOf}
 use Rattle.nine.specs.Outcome.{Figures, outcomeOf}
@@ -59,7 +59,7 @@ nineSheets =
     ∷ taken radio (0 ∷ 1 ∷ []) radioTable 13 0 15
     ∷ taken (task 6 1 4 ∷ task 6 1 3 ∷ task 3 1 2 ∷ task 6 1 1 ∷ []) (2 ∷ 3 ∷ []) (1 ∷ 2 ∷ 3 ∷ 1 ∷ 5 ∷ []) 8 3 8
     ∷ taken (task 5 5 1 ∷ []) (0 ∷ []) (5 ∷ []) 5 0 5
-    ∷ not-taken (task 5 6 1 ∷ []) 4 []
+    ∷ not-taken (task 5 6 1 ∷ []) 4 (22 ∷ [])
     ∷ not-taken (task 2 1 2 ∷ task 3 2 1 ∷ []) 15 (1 ∷ [])
     ∷ not-taken (task 1000 1 2 ∷ task 1001 1 1 ∷ []) 10 []
     ∷ not-taken (task 2 1 2 ∷ task 16384 1 1 ∷ []) 11 []
@@ -76,5 +76,5 @@ rows-hold (r ∷ rs) e = (outcome-computed (r .on) ∙ cc, rows-hold rs cc)
 
 -- Of each of the nine sheets the definitions say what document 01 says.
 pub nine : Every (λ r. outcomeOf (r .on) ≡ r .says) nineSheets
-unfolding computedOf judgeOf first taskFields entryFields among listOf tasksOf hyperperiod lcm gcd allJobs sum greatest maximum least clearing rowsBy worst worstRelease bound up
+unfolding computedOf judgeOf first taskFields entryFields place among listOf tasksOf hyperperiod lcm gcd allJobs sum greatest maximum least clearing rowsBy worst worstRelease bound up
 nine = rows-hold nineSheets refl

@@ -1,5 +1,6 @@
-// An answer as it goes to standard output: its size in bytes; the number of the refusal, 0 for none; one more than the late task,
-// 0 for none; the call's values; the lent memory. Every number is a word of four bytes, the most significant first.
+// An answer as it goes to standard output: its size in bytes; the number of the refusal, 0 for none; one more than the bit or the
+// task that comes with it, 0 for none; the call's values; the lent memory. Every number is a word of four bytes, the most significant
+// first.
 // A function that puts something answers the place after it.
 use super::request::past;
 use answers::Refusal;
@@ -66,19 +67,20 @@ pub fn put_sheet(out: &mut [u8], at: usize, s: Sheet) -> usize {
     place
 }
 
-fn opening(out: &mut [u8], number: u32, task: u32) -> usize {
+fn opening(out: &mut [u8], number: u32, value: u32) -> usize {
     put_word(&mut *out, 4, number);
-    put_word(out, 8, task)
+    put_word(out, 8, value)
 }
 
 pub fn accepted(out: &mut [u8]) -> usize {
     opening(out, 0, 0)
 }
 
+// No value is the greatest number of 32 bits, so that one more than it is never cut.
 pub fn refused(out: &mut [u8], r: Refusal) -> usize {
     match r {
         Refusal::Number(n) => opening(out, wide(n), 0),
-        Refusal::With(n, value) => opening(out, wide(n), value % 65536 + 1),
+        Refusal::With(n, value) => opening(out, wide(n), value % 4294967295 + 1),
     }
 }
 

@@ -28,12 +28,21 @@ fn print_signed(label: &[u8], n: i32) {
     io::print_decimal(1, arith::magnitude(n));
 }
 
+// "and for 15 the task too"; "the report adds ` bit ` and the offset" to the others that have a value.
+fn print_value(number: u8, value: u32) {
+    if number == 15 {
+        print_number(b" task ", value);
+    } else {
+        print_number(b" bit ", value);
+    }
+}
+
 fn print_refusal(r: Refusal) {
     match r {
         Refusal::Number(n) => print_number(b"refused ", short(n)),
-        Refusal::With(n, task) => {
+        Refusal::With(n, value) => {
             print_number(b"refused ", short(n));
-            print_number(b" task ", task);
+            print_value(n, value);
         }
     }
     io::write_all(1, b"\n");

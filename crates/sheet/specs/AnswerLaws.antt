@@ -1,6 +1,6 @@
 -- Laws of judgements: the fields that are left, a field that the bytes may end in, and what a given answer tells of the code's.
 use mathlib.Core.Path.{_≡_, refl, ap}
-use mathlib.Core.List.{[]}
+use mathlib.Core.List.{[], _∷_}
 use Prim.Native.Nat.{ℕ, _+_, _-_, _≤_, _<_}
 use borrow.Author.Tests.{lt-ltb, le-ltb}
 use Rattle.sheet.specs.declared.Sheet.{Sheet}
@@ -9,13 +9,13 @@ use Rattle.sheet.specs.declared.Written.{Written}
 use Rattle.sheet.specs.declared.Written.the-variants.{Bytes, No as NoBytes}
 use Rattle.answers.specs.declared.Verdict.{Verdict}
 use Rattle.answers.specs.declared.Verdict.the-variants.{Fine, No}
-use Rattle.answers.specs.Answers.{given, refused, Judgement, fine, when, also, first, told}
+use Rattle.answers.specs.Answers.{given, refused, Judgement, fine, when, withValue, also, first, told}
 use Rattle.answers.specs.AnswerLaws.{refused-given}
 use Rattle.sheet.specs.Answers.{toldBytes}
 use Rattle.sheet.specs.Fields.{width, place, value, judged}
 use Rattle.sheet.specs.Order.{next}
 use Rattle.sheet.specs.FieldLaws.{onward, onward-step}
-use Rattle.sheet.specs.Calls.{fieldsOf, judgedIn}
+use Rattle.sheet.specs.Calls.{fieldsOf, judgedOn, judgedIn}
 
 -- ---- the first of the fields that are left
 
@@ -30,11 +30,11 @@ first-none judge n left f e = ap (λ k. first judge (onward n f k)) e
 -- ---- a field in bytes that may end inside it
 
 module _ (room : ℕ) (s : Sheet) (f : Field) where
-  pub judged-short : room < place (fieldsOf s) f + width f → judgedIn room s f ≡ refused 1 []
-  judged-short h = ap (λ b. also (when b 1) (judged (value s) f)) (lt-ltb room (place (fieldsOf s) f + width f) h)
+  pub judged-short : room < place (fieldsOf s) f + width f → judgedIn room s f ≡ refused 1 (place (fieldsOf s) f ∷ [])
+  judged-short h = ap (λ b. withValue (place (fieldsOf s) f) (also (when b 1) (judged (value s) f))) (lt-ltb room (place (fieldsOf s) f + width f) h)
 
-  pub judged-whole : place (fieldsOf s) f + width f ≤ room → judgedIn room s f ≡ judged (value s) f
-  judged-whole h = ap (λ b. also (when b 1) (judged (value s) f)) (le-ltb room (place (fieldsOf s) f + width f) h)
+  pub judged-whole : place (fieldsOf s) f + width f ≤ room → judgedIn room s f ≡ judgedOn s f
+  judged-whole h = ap (λ b. withValue (place (fieldsOf s) f) (also (when b 1) (judged (value s) f))) (le-ltb room (place (fieldsOf s) f + width f) h)
 
 -- ---- what a given answer tells of the code's
 

@@ -1,16 +1,16 @@
 -- What reading, judging and writing a timing sheet answer, and what they leave in memory.
-use mathlib.Core.Bool.{Bool, cond}
+use mathlib.Core.Bool.{Bool, false, cond}
 use mathlib.Core.List.{List, [], _∷_, _++_}
-use Prim.Native.Nat.{ℕ, _+_, _-_, _*_, _<_}
+use Prim.Native.Nat.{ℕ, zero, suc, _+_, _-_, _*_, _<_}
 use lib.Dec.{ltb}
-use lib.ListN.{length}
+use lib.ListN.{length, getD}
 use Rattle.bits.specs.Bits.{bits, unpack, number, listOf, bytesFor, bytesOf, written}
 use Rattle.theory.specs.declared.Task.{Task}
 use Rattle.theory.specs.Model.Schedule.{none}
 use Rattle.sheet.specs.declared.Sheet.{Sheet}
 use Rattle.sheet.specs.declared.Field.{Field}
 use Rattle.sheet.specs.declared.Field.the-variants.{Count, Period, Budget, Rank, Length, Entry}
-use Rattle.answers.specs.Answers.{Answer, given, refused, Judgement, when, also, first}
+use Rattle.answers.specs.Answers.{Answer, given, refused, Judgement, when, withValue, also, first}
 use Rattle.sheet.specs.Fields.{Values, fields, width, widths, place, value, judged}
 
 -- "all sixteen task places and sixteen chain places": the first k as f says, "unused ones zero".
@@ -23,9 +23,13 @@ places blank k f = listOf 16 (λ i. cond (ltb i k) (f i) blank)
 abbrev pub fieldsOf : Sheet → List Field
 fieldsOf s = fields (s .count) (s .length)
 
+-- A field's judgement comes with "the bit offset where the judged field begins", as it would be written.
+abbrev pub judgedOn : Sheet → Field → Judgement
+judgedOn s f = withValue (place (fieldsOf s) f) (judged (value s) f)
+
 -- "A sheet handed over in memory is judged for 2 to 8 in the same field order."
 unfoldable pub judgeOf : Sheet → Judgement
-judgeOf s = first (judged (value s)) (fieldsOf s)
+judgeOf s = first (judgedOn s) (fieldsOf s)
 
 -- ---- its bits
 
@@ -99,14 +103,26 @@ abbrev pub sheetOf : List Bool → Sheet
 sheetOf bs = sheetBy (spelt bs)
 
 -- "each field when it is read: 1 first, then the field's own number"
-abbrev pub judgedIn : ℕ → Sheet → Field → Judgement
-judgedIn room s f = also (when (ltb room (place (fieldsOf s) f + width f)) 1) (judged (value s) f)
+abbrev pub judgedWhole : ℕ → Sheet → Field → Judgement
+judgedWhole room s f = also (when (ltb room (place (fieldsOf s) f + width f)) 1) (judged (value s) f)
 
--- "a bit after the last field is 1, or a byte follows the last needed"
+abbrev pub judgedIn : ℕ → Sheet → Field → Judgement
+judgedIn room s f = withValue (place (fieldsOf s) f) (judgedWhole room s f)
+
+-- The first bit that is 1 of the w bits from place `at` on, or the bit after them if none is.
+unfoldable pub firstOne : List Bool → ℕ → ℕ → ℕ
+firstOne bs at zero = at
+firstOne bs at (suc w) = cond (getD bs at false) at (firstOne bs (suc at) w)
+
+-- The first bit that is wrong after the last field: one that is 1 before the end of the byte, or else the first of a byte that follows.
+abbrev pub wrongBit : List Bool → ℕ → ℕ
+wrongBit bs end = firstOne bs end (bytesFor end * 8 - end)
+
+-- "a bit after the last field is 1, or a byte follows the last needed", with "the earlier of the first wrong bit and the surplus byte's first"
 abbrev pub tailOf : List ℕ → ℕ → Judgement
 tailOf bytes end =
-    also (when (ltb (bytesFor end) (length bytes)) 9)
-    (when (ltb 0 (number (unpack bytes) end (bytesFor end * 8 - end))) 9)
+    let wrong = wrongBit (unpack bytes) end in
+    withValue wrong (also (when (ltb wrong (bytesFor end * 8)) 9) (when (ltb (bytesFor end) (length bytes)) 9))
 
 -- "A sheet's bytes are judged front to back"; "the reader judges 1 to 9 only".
 abbrev pub readAs : List ℕ → Sheet → Answer Sheet

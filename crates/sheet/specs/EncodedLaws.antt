@@ -7,24 +7,25 @@ use native.Mathlib.Omega.{arith}
 use native.Mathlib.Decide.{decLt}
 use lib.Dec.{ltb, leb}
 use lib.ListN.{length, getD, List·getD-eq-default}
-use borrow.Author.Tests.{ltb-false, le-ltb}
-use Rattle.bits.specs.Bits.{bits, unpack, number, bytesFor}
-use Rattle.bits.specs.Laws.{number-lt, number-same, number-zero, zero-number}
+use borrow.Author.Tests.{ltb-false}
+use Rattle.bits.specs.Bits.{bits, unpack, bytesFor}
+use Rattle.bits.specs.Laws.{number-lt, number-same}
 use Rattle.bits.specs.Bytes.{Bytes, bitAt, bytes-same, length-bytesOf, bytesOf-bytes, bitAt-bytesOf}
 use Rattle.theory.specs.Model.Schedule.{none}
 use Rattle.sheet.specs.declared.Sheet.{Sheet}
 use Rattle.sheet.specs.declared.Field.{Field}
 use Rattle.sheet.specs.declared.Field.the-variants.{Count, Rank, Length, Entry}
-use Rattle.answers.specs.Answers.{given, fine, when, also, first}
-use Rattle.answers.specs.AnswerLaws.{when-fine, also-given}
+use Rattle.answers.specs.Answers.{given, fine, when, withValue, also, first}
+use Rattle.answers.specs.AnswerLaws.{when-fine, with-value-fine, also-given}
 use Rattle.sheet.specs.Fields.{Values, fields, width, place, value, outside, among, judged}
 use Rattle.sheet.specs.FieldLaws.{among-same}
-use Rattle.sheet.specs.Calls.{fieldsOf, judgeOf, packed, encoded, endOf, sizeOf, RanksFit, taskBy, sheetBy, cleared, speltIn, countSpelt, lengthSpelt, spelt, sheetOf, judgedIn, tailOf, readAs, readOf}
+use Rattle.sheet.specs.Calls.{fieldsOf, judgedOn, judgeOf, packed, encoded, endOf, sizeOf, RanksFit, taskBy, sheetBy, cleared, speltIn, countSpelt, lengthSpelt, spelt, sheetOf, judgedWhole, judgedIn, wrongBit, tailOf, readAs, readOf}
 use Rattle.sheet.specs.PlaceLaws.{places-every, places-taken}
 use Rattle.sheet.specs.EachLaws.{All, Each, all-map, each-all, all-each, each-map, each-fewer, first-same, first-fine, all-first}
 use Rattle.sheet.specs.FormatLaws.{fields-in-place, place-located, widths-fields, length-bits-of, written-spelt, spelt-written}
 use Rattle.sheet.specs.SpeltLaws.{sheet-same, spelt-counts, spelt-is}
 use Rattle.sheet.specs.RoomLaws.{roomy}
+use Rattle.sheet.specs.TailLaws.{first-one-zeros, first-one-none, tail-fine, fine-tail}
 use Rattle.sheet.specs.Sound.{Sound}
 use Rattle.sheet.specs.SoundLaws.{judged-sound}
 
@@ -70,9 +71,10 @@ module _ (s : Sheet) (sound : Sound s) where
   cleared-judge : judgeOf (cleared s) ≡ judgeOf s
   unfolding judgeOf
   cleared-judge =
-      first-same (judged (value (cleared s))) (judged (value s)) (fieldsOf s)
+      first-same (judgedOn (cleared s)) (judgedOn s) (fieldsOf s)
+      (all-map (λ f. judged (value (cleared s)) f ≡ judged (value s) f) (λ f. judgedOn (cleared s) f ≡ judgedOn s f) (fieldsOf s) (λ f. ap (withValue (place (fieldsOf s) f)))
       (each-all (λ f. judged (value (cleared s)) f ≡ judged (value s) f)
-      (judged-same (value (cleared s)) (value s) (s .count) (s .length) (sheet-holds (value s) (sound .count-most) (omega (arith, sound .count-most, sound .length-most)))))
+      (judged-same (value (cleared s)) (value s) (s .count) (s .length) (sheet-holds (value s) (sound .count-most) (omega (arith, sound .count-most, sound .length-most))))))
 
   -- every value fits its field
   values-fit : RanksFit s → Each (λ f. value s f < 2 ^ width f) (s .count) (s .length)
@@ -109,8 +111,7 @@ module _ (s : Sheet) (sound : Sound s) (ranks : RanksFit s) where
 
   encoded-tail : tailOf (encoded s) (endOf s) ≡ fine
   encoded-tail =
-      ap₂ (λ a b. also (when a 9) (when b 9)) (le-ltb (sizeOf s) (length (encoded s)) (omega (arith, length-encoded s)))
-      (le-ltb 0 (number (unpack (encoded s)) (endOf s) pad) (omega (arith, number-zero (unpack (encoded s)) (endOf s) pad past)))
+      tail-fine (encoded s) (endOf s) (omega (arith, first-one-none (unpack (encoded s)) (endOf s) pad past)) (omega (arith, length-encoded s))
     where
       pad : ℕ
       pad = sizeOf s * 8 - endOf s
@@ -125,7 +126,7 @@ record Accepted (bytes : List ℕ) (s : Sheet) : Type 0 where
   inside : Each (λ f. place (fieldsOf s) f + width f ≤ length bytes * 8) (s .count) (s .length)
   judged-fine : judgeOf s ≡ fine
   last-byte : length bytes ≤ sizeOf s
-  zeros : number (unpack bytes) (endOf s) (sizeOf s * 8 - endOf s) ≡ 0
+  zeros : (k : ℕ) → endOf s ≤ k → k < sizeOf s * 8 → bitAt bytes k ≡ false
   is : s ≡ sheetOf (unpack bytes)
 
 accepted : (bytes : List ℕ) (s : Sheet) → readOf bytes ≡ given s → Accepted bytes s
@@ -133,9 +134,9 @@ unfolding readOf judgeOf
 accepted bytes s e =
     record {
       inside = all-each (λ f. place (fieldsOf s) f + width f ≤ room) (all-map fits (λ f. place (fieldsOf s) f + width f ≤ room) (fieldsOf s) (λ f h. ltb-false room (place (fieldsOf s) f + width f) (when-fine _ 1 (both f h .0))) each);
-      judged-fine = all-first (judged (value s)) (fieldsOf s) (all-map fits (λ f. judged (value s) f ≡ fine) (fieldsOf s) (λ f h. both f h .1) each);
-      last-byte = ltb-false (sizeOf s) (length bytes) (when-fine _ 9 (tail .0));
-      zeros = omega (arith, ltb-false 0 (number (unpack bytes) (endOf s) (sizeOf s * 8 - endOf s)) (when-fine _ 9 (tail .1)));
+      judged-fine = all-first (judgedOn s) (fieldsOf s) (all-map fits (λ f. judgedOn s f ≡ fine) (fieldsOf s) (λ f h. ap (withValue (place (fieldsOf s) f)) (both f h .1)) each);
+      last-byte = tail .1;
+      zeros = λ k l h. first-one-zeros (unpack bytes) (endOf s) (sizeOf s * 8 - endOf s) k l (omega (arith, tail .0));
       is = same;
     }
   where
@@ -164,10 +165,12 @@ accepted bytes s e =
     each = first-fine (judgedIn room s) (fieldsOf s) (parts .0)
 
     both : (f : Field) → judgedIn room s f ≡ fine → (when (ltb room (place (fieldsOf s) f + width f)) 1 ≡ fine) × (judged (value s) f ≡ fine)
-    both f h = also-given (when (ltb room (place (fieldsOf s) f + width f)) 1) (judged (value s) f) h
+    both f h =
+        also-given (when (ltb room (place (fieldsOf s) f + width f)) 1) (judged (value s) f)
+        (with-value-fine (place (fieldsOf s) f) (judgedWhole room s f) h)
 
-    tail : (when (ltb (sizeOf s) (length bytes)) 9 ≡ fine) × (when (ltb 0 (number (unpack bytes) (endOf s) (sizeOf s * 8 - endOf s))) 9 ≡ fine)
-    tail = also-given (when (ltb (sizeOf s) (length bytes)) 9) _ (also-given (tailOf bytes (endOf s)) (given s) (parts .1) .0)
+    tail : (sizeOf s * 8 ≤ wrongBit (unpack bytes) (endOf s)) × (length bytes ≤ sizeOf s)
+    tail = fine-tail bytes (endOf s) (also-given (tailOf bytes (endOf s)) (given s) (parts .1) .0)
 
 module _ (bytes : List ℕ) (s : Sheet) (ok : Accepted bytes s) where
   abbrev bs : List Bool
@@ -202,7 +205,7 @@ module _ (bytes : List ℕ) (s : Sheet) (ok : Accepted bytes s) where
           ∙ ap (bitAt bytes) {x = 0 + p} {y = p} (omega arith)
       go (no h) =
           List·getD-eq-default (packed s) false (omega (arith, length-bits-of s))
-          ∙ sym (ap (bitAt bytes) {x = p} {y = endOf s + (p - endOf s)} (omega arith) ∙ zero-number bs (endOf s) (sizeOf s * 8 - endOf s) (p - endOf s) (ok .zeros) (omega (arith, size-is)))
+          ∙ sym (ok .zeros p (omega arith) (omega (arith, size-is)))
 
 -- ---- the sheet, and its bytes
 

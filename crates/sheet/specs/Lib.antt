@@ -15,11 +15,13 @@ pub mod NumberLaws
 pub mod EachLaws
 pub mod FormatLaws
 pub mod RoomLaws
+pub mod TailLaws
 pub mod SoundLaws
 pub mod SpeltLaws
 pub mod EncodedLaws
 pub mod TaskLaws
--- The results: round trips, long inputs, and one answer for each input.
+-- The results: round trips, long inputs, what the bit offset of a refusal is, and one answer for each input.
 pub mod RoundTrip
 pub mod LongInputs
+pub mod Offsets
 pub mod Unique

@@ -9,19 +9,21 @@ use lib.Dec.{ltb}
 use lib.ListN.{length, getD, take}
 use lib.Seq.{take-all, length-take-le, getD-take}
 use borrow.Author.Tests.{ltb-false, lt-ltb, le-ltb}
-use Rattle.bits.specs.Bits.{bits, unpack, bytesFor, number}
+use Rattle.bits.specs.Bits.{bits, unpack, bytesFor}
 use Rattle.bits.specs.Laws.{number-same}
 use Rattle.bits.specs.Bytes.{bitAt, getD-unpack}
 use Rattle.sheet.specs.declared.Sheet.{Sheet}
 use Rattle.sheet.specs.declared.Field.{Field}
 use Rattle.sheet.specs.declared.Field.the-variants.{Count, Period, Budget, Rank, Length, Entry}
-use Rattle.answers.specs.Answers.{Answer, given, refused, Judgement, fine, when, also, first}
-use Rattle.sheet.specs.Fields.{taskFields, entryFields, fields, width, place, value, outside, judged}
-use Rattle.sheet.specs.Calls.{fieldsOf, judgeOf, endOf, sheetBy, speltIn, countSpelt, lengthSpelt, spelt, sheetOf, judgedIn, tailOf, readAs, readOf}
+use Rattle.answers.specs.Answers.{Answer, given, refused, Judgement, fine, when, withValue, also, first}
+use Rattle.sheet.specs.Fields.{taskFields, entryFields, fields, width, place, outside}
+use Rattle.sheet.specs.Calls.{fieldsOf, judgedOn, judgeOf, endOf, sheetBy, speltIn, countSpelt, lengthSpelt, spelt, sheetOf, judgedIn, wrongBit, tailOf, readAs, readOf}
 use Rattle.sheet.specs.FormatLaws.{located, place-located, widths-fields}
 use Rattle.sheet.specs.SpeltLaws.{sheet-same, spelt-counts}
 use Rattle.sheet.specs.EachLaws.{All, Each, each-all, each-fewer}
 use Rattle.sheet.specs.RoomLaws.{roomy-fields, roomy}
+use Rattle.sheet.specs.TailLaws.{first-one-same, tail-longer}
+use Rattle.sheet.specs.SoundLaws.{judged-sound}
 
 -- ---- a refusal hides what comes after it
 
@@ -40,6 +42,9 @@ first-append g (x ∷ xs) ys = go (g x) (first-append g xs ys)
     go (given u) e = e
     go (refused n vs) e = refl
 
+refused-with : (value : ℕ) {j : Judgement} → Refused j → Refused (withValue value j)
+refused-with value (n, vs, e) = (n, value ∷ [], ap (withValue value) e)
+
 refused-last : (g : Field → Judgement) (xs : List Field) (f : Field) → Refused (g f) → Refused (first g (xs ++ f ∷ []))
 unfolding first
 refused-last g xs f (n, vs, e) = go (first g xs) (first-append g xs (f ∷ []) ∙ ap (λ j. also (first g xs) (also j fine)) e)
@@ -50,20 +55,20 @@ refused-last g xs f (n, vs, e) = go (first g xs) (first-append g xs (f ∷ []) �
 
 -- ---- fields in room for the first of them, where these are refused
 
-module _ (s : Sheet) (room : ℕ) (xs ys : List Field) (inside : All (λ f. place (fieldsOf s) f + width f ≤ room) xs) (wrong : Refused (first (judged (value s)) xs)) where
-  front-judged : first (judgedIn room s) (xs ++ ys) ≡ first (judged (value s)) (xs ++ ys)
+module _ (s : Sheet) (room : ℕ) (xs ys : List Field) (inside : All (λ f. place (fieldsOf s) f + width f ≤ room) xs) (wrong : Refused (first (judgedOn s) xs)) where
+  front-judged : first (judgedIn room s) (xs ++ ys) ≡ first (judgedOn s) (xs ++ ys)
   front-judged =
       first-append (judgedIn room s) xs ys
       ∙ ap (λ j. also j (first (judgedIn room s) ys)) (roomy-fields s room xs inside)
-      ∙ also-refused (first (judged (value s)) xs) (first (judgedIn room s) ys) (first (judged (value s)) ys) wrong
-      ∙ sym (first-append (judged (value s)) xs ys)
+      ∙ also-refused (first (judgedOn s) xs) (first (judgedIn room s) ys) (first (judgedOn s) ys) wrong
+      ∙ sym (first-append (judgedOn s) xs ys)
 
-  front-answer : {A : Type 0} (a b : Answer A) → also (first (judgedIn room s) (xs ++ ys)) a ≡ also (first (judged (value s)) (xs ++ ys)) b
+  front-answer : {A : Type 0} (a b : Answer A) → also (first (judgedIn room s) (xs ++ ys)) a ≡ also (first (judgedOn s) (xs ++ ys)) b
   front-answer a b =
-      ap (λ j. also j a) front-judged ∙ also-refused (first (judged (value s)) (xs ++ ys)) a b (whole wrong)
+      ap (λ j. also j a) front-judged ∙ also-refused (first (judgedOn s) (xs ++ ys)) a b (whole wrong)
     where
-      whole : Refused (first (judged (value s)) xs) → Refused (first (judged (value s)) (xs ++ ys))
-      whole (n, vs, e) = (n, vs, first-append (judged (value s)) xs ys ∙ ap (λ j. also j (first (judged (value s)) ys)) e)
+      whole : Refused (first (judgedOn s) xs) → Refused (first (judgedOn s) (xs ++ ys))
+      whole (n, vs, e) = (n, vs, first-append (judgedOn s) xs ys ∙ ap (λ j. also j (first (judgedOn s) ys)) e)
 
 -- ---- bytes longer than a sheet
 
@@ -75,6 +80,13 @@ out-of-range low high v number h = go (ltb v low) refl (ltb high v) refl
     go false p true q = (number, [], refl)
     go false p false q = absurd (h (ltb-false v low p) (ltb-false high v q))
 
+-- the refusal of what follows the last field, after those of the fields
+abbrev wrongIn : List Bool → Sheet → Answer Sheet
+wrongIn bs s = refused 9 (wrongBit bs (endOf s) ∷ [])
+
+abbrev judgedThen : List Bool → Sheet → Answer Sheet
+judgedThen bs s = also (judgeOf s) (wrongIn bs s)
+
 module _ (bytes : List ℕ) (s : Sheet) (long : 95 ≤ length bytes) where
   abbrev n : ℕ
   n = s .count
@@ -85,11 +97,11 @@ module _ (bytes : List ℕ) (s : Sheet) (long : 95 ≤ length bytes) where
   abbrev rest : Answer Sheet
   rest = also (tailOf bytes (endOf s)) (given s)
 
-  bad-count : (1 ≤ n → n ≤ 16 → ⊥) → readAs bytes s ≡ also (judgeOf s) (refused 9 [])
+  bad-count : (1 ≤ n → n ≤ 16 → ⊥) → readAs bytes s ≡ judgedThen (unpack bytes) s
   unfolding judgeOf
   bad-count h =
       front-answer s room (Count ∷ []) (taskFields 0 n ++ Length ∷ entryFields 0 (s .length)) (omega (arith, place-located n (s .length) .of-count), tt)
-      (refused-last (judged (value s)) [] Count (out-of-range 1 16 n 2 h)) rest (refused 9 [])
+      (refused-last (judgedOn s) [] Count (refused-with (place (fieldsOf s) Count) (out-of-range 1 16 n 2 h))) rest (wrongIn (unpack bytes) s)
 
   in-room : n ≤ 16 → Each (λ f. place (fieldsOf s) f + width f ≤ room) n 0
   in-room b =
@@ -103,25 +115,24 @@ module _ (bytes : List ℕ) (s : Sheet) (long : 95 ≤ length bytes) where
         of-entry = λ i l. absurd (omega arith);
       }
 
-  bad-length : n ≤ 16 → (1 ≤ s .length → s .length ≤ n → ⊥) → readAs bytes s ≡ also (judgeOf s) (refused 9 [])
+  bad-length : n ≤ 16 → (1 ≤ s .length → s .length ≤ n → ⊥) → readAs bytes s ≡ judgedThen (unpack bytes) s
   unfolding judgeOf entryFields
   bad-length b h =
-      subst (λ fs. also (first (judgedIn room s) fs) rest ≡ also (first (judged (value s)) fs) (refused 9 []))
+      subst (λ fs. also (first (judgedIn room s) fs) rest ≡ also (first (judgedOn s) fs) (wrongIn (unpack bytes) s))
       (ap (λ l. Count ∷ l) (append-assoc (taskFields 0 n) (Length ∷ []) (entryFields 0 (s .length))))
       (front-answer s room (fields n 0) (entryFields 0 (s .length)) (each-all (λ f. place (fieldsOf s) f + width f ≤ room) (in-room b))
-      (refused-last (judged (value s)) (Count ∷ taskFields 0 n) Length (out-of-range 1 n (s .length) 6 h)) rest (refused 9 []))
+      (refused-last (judgedOn s) (Count ∷ taskFields 0 n) Length (refused-with (place (fieldsOf s) Length) (out-of-range 1 n (s .length) 6 h))) rest (wrongIn (unpack bytes) s))
 
-  good-counts : n ≤ 16 → s .length ≤ n → readAs bytes s ≡ also (judgeOf s) (refused 9 [])
+  good-counts : n ≤ 16 → s .length ≤ n → readAs bytes s ≡ judgedThen (unpack bytes) s
   good-counts b c =
-      let pad = number (unpack bytes) (endOf s) (bytesFor (endOf s) * 8 - endOf s) in
       ap₂ (λ j t. also j (also t (given s))) (roomy s room (omega (arith, widths-fields n (s .length))))
-      (ap (λ t. also (when t 9) (when (ltb 0 pad) 9)) (lt-ltb (bytesFor (endOf s)) (length bytes) (omega (arith, widths-fields n (s .length)))))
+      (tail-longer bytes (endOf s) (omega (arith, widths-fields n (s .length))))
 
   -- they are refused, if not for a field then for what follows the last
-  long-refused : readAs bytes s ≡ also (judgeOf s) (refused 9 [])
+  long-refused : readAs bytes s ≡ judgedThen (unpack bytes) s
   long-refused = go (decLe 1 n) (decLe n 16) (decLe (s .length) n)
     where
-      go : Dec (1 ≤ n) → Dec (n ≤ 16) → Dec (s .length ≤ n) → readAs bytes s ≡ also (judgeOf s) (refused 9 [])
+      go : Dec (1 ≤ n) → Dec (n ≤ 16) → Dec (s .length ≤ n) → readAs bytes s ≡ judgedThen (unpack bytes) s
       go (no a) b c = bad-count (λ x y. a x)
       go (yes a) (no b) c = bad-count (λ x y. b y)
       go (yes a) (yes b) (no c) = bad-length b (λ x y. c y)
@@ -129,8 +140,8 @@ module _ (bytes : List ℕ) (s : Sheet) (long : 95 ≤ length bytes) where
 
 -- ---- and so for the sheet that the front spells
 
-over-count : (s : Sheet) → 16 < s .count → judgeOf s ≡ refused 2 []
-unfolding judgeOf first
+over-count : (s : Sheet) → 16 < s .count → judgeOf s ≡ refused 2 (0 ∷ [])
+unfolding judgeOf first place
 over-count s h = rw (le-ltb (s .count) 1 (omega arith), lt-ltb 16 (s .count) h)
 
 module _ (bs cs : List Bool) (alike : (p : ℕ) → p < 752 → getD bs p false ≡ getD cs p false) where
@@ -169,12 +180,26 @@ module _ (bs cs : List Bool) (alike : (p : ℕ) → p < 752 → getD bs p false 
             of-entry = λ i l. field-same (fields n m) (Entry i) (omega (arith, at .of-entry i (omega arith)));
           }
 
-  judge-same : judgeOf (sheetOf bs) ≡ judgeOf (sheetOf cs)
-  judge-same = go (decLe (countSpelt bs) 16)
+  -- so are the bits after the last field of a sheet that is judged fine
+  wrong-same : (s : Sheet) → judgedThen bs s ≡ judgedThen cs s
+  wrong-same s = go (judgeOf s) refl
     where
-      go : Dec (countSpelt bs ≤ 16) → judgeOf (sheetOf bs) ≡ judgeOf (sheetOf cs)
-      go (yes h) = ap judgeOf (front-same h)
-      go (no h) = over-count (sheetOf bs) (omega (arith, spelt-counts bs .0)) ∙ sym (over-count (sheetOf cs) (omega (arith, count-same, spelt-counts cs .0)))
+      go : (j : Judgement) → judgeOf s ≡ j → also j (wrongIn bs s) ≡ also j (wrongIn cs s)
+      go (given u) q =
+          let sound = judged-sound s q in
+          ap (λ k. refused 9 (k ∷ [])) (first-one-same bs cs (endOf s) (bytesFor (endOf s) * 8 - endOf s)
+          (λ k l. alike k (omega (arith, sound .count-most, sound .length-most, widths-fields (s .count) (s .length)))))
+      go (refused n vs) q = refl
+
+  -- and what is answered to more bytes
+  answer-same : judgedThen bs (sheetOf bs) ≡ judgedThen cs (sheetOf cs)
+  answer-same = go (decLe (countSpelt bs) 16)
+    where
+      go : Dec (countSpelt bs ≤ 16) → judgedThen bs (sheetOf bs) ≡ judgedThen cs (sheetOf cs)
+      go (yes h) = wrong-same (sheetOf bs) ∙ ap (judgedThen cs) (front-same h)
+      go (no h) =
+          ap (λ j. also j (wrongIn bs (sheetOf bs))) (over-count (sheetOf bs) (omega (arith, spelt-counts bs .0)))
+          ∙ sym (ap (λ j. also j (wrongIn cs (sheetOf cs))) (over-count (sheetOf cs) (omega (arith, count-same, spelt-counts cs .0))))
 
 -- ---- the theorem
 
@@ -190,7 +215,7 @@ read-front bytes k h = go (decLe (length bytes) k)
     go (no l) =
         let long : length front ≡ k = length-take-le k bytes (omega arith) in
         long-refused front (sheetOf (unpack front)) (omega arith)
-        ∙ ap (λ j. also j (refused 9 [])) (judge-same (unpack front) (unpack bytes) (λ p g. bit p g long))
+        ∙ answer-same (unpack front) (unpack bytes) (λ p g. bit p g long)
         ∙ sym (long-refused bytes (sheetOf (unpack bytes)) (omega arith))
       where
         bit : (p : ℕ) → p < 752 → length front ≡ k → bitAt front p ≡ bitAt bytes p

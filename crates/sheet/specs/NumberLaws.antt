@@ -1,16 +1,16 @@
 -- The numbers of refusal that each call may give.
 use mathlib.Core.List.{List}
-use Prim.Native.Nat.{ℕ, _+_, _-_, _*_}
+use Prim.Native.Nat.{ℕ, _+_, _*_}
 use native.Mathlib.Omega.{arith}
 use lib.Dec.{ltb, leb}
 use lib.ListN.{length}
-use Rattle.bits.specs.Bits.{unpack, number, bytesFor}
+use Rattle.bits.specs.Bits.{unpack, bytesFor}
 use Rattle.sheet.specs.declared.Sheet.{Sheet}
 use Rattle.sheet.specs.declared.Field.{Field}
 use Rattle.sheet.specs.declared.Field.the-variants.{Count, Period, Budget, Rank, Length, Entry}
-use Rattle.answers.specs.NumberLaws.{Numbered, given-numbered, numbered-wider, when-numbered, also-numbered, first-numbered}
+use Rattle.answers.specs.NumberLaws.{Numbered, given-numbered, numbered-wider, when-numbered, with-value-numbered, also-numbered, first-numbered}
 use Rattle.sheet.specs.Fields.{Values, width, place, value, outside, among, judged}
-use Rattle.sheet.specs.Calls.{fieldsOf, judgeOf, endOf, sizeOf, writeOf, sheetOf, judgedIn, tailOf, readAs, readOf}
+use Rattle.sheet.specs.Calls.{fieldsOf, judgeOf, endOf, sizeOf, writeOf, sheetOf, judgedIn, wrongBit, tailOf, readAs, readOf}
 
 judged-numbered : (v : Values) (f : Field) → Numbered 2 8 (judged v f)
 judged-numbered v Count = when-numbered (outside 1 16 (v Count)) 2 (omega arith) (omega arith)
@@ -25,7 +25,7 @@ judged-numbered v (Entry i) =
 -- "A sheet handed over in memory is judged for 2 to 8".
 pub judge-numbered : (s : Sheet) → Numbered 2 8 (judgeOf s)
 unfolding judgeOf
-judge-numbered s = first-numbered (fieldsOf s) (judged-numbered (value s))
+judge-numbered s = first-numbered (fieldsOf s) (λ f. with-value-numbered (place (fieldsOf s) f) (judged-numbered (value s) f))
 
 -- "the writer judges 2 to 8 and then 14 only"
 pub write-numbered : (s : Sheet) (room : ℕ) → Numbered 2 14 (writeOf s room)
@@ -36,13 +36,16 @@ write-numbered s room =
 
 judged-in-numbered : (room : ℕ) (s : Sheet) (f : Field) → Numbered 1 9 (judgedIn room s f)
 judged-in-numbered room s f =
-    also-numbered (when-numbered (ltb room (place (fieldsOf s) f + width f)) 1 (omega arith) (omega arith))
-    (numbered-wider (judged-numbered (value s) f) (omega arith) (omega arith))
+    with-value-numbered (place (fieldsOf s) f)
+    (also-numbered (when-numbered (ltb room (place (fieldsOf s) f + width f)) 1 (omega arith) (omega arith))
+    (numbered-wider (judged-numbered (value s) f) (omega arith) (omega arith)))
 
 tail-numbered : (bytes : List ℕ) (end : ℕ) → Numbered 1 9 (tailOf bytes end)
 tail-numbered bytes end =
-    also-numbered (when-numbered (ltb (bytesFor end) (length bytes)) 9 (omega arith) (omega arith))
-    (when-numbered (ltb 0 (number (unpack bytes) end (bytesFor end * 8 - end))) 9 (omega arith) (omega arith))
+    let wrong = wrongBit (unpack bytes) end in
+    with-value-numbered wrong
+    (also-numbered (when-numbered (ltb wrong (bytesFor end * 8)) 9 (omega arith) (omega arith))
+    (when-numbered (ltb (bytesFor end) (length bytes)) 9 (omega arith) (omega arith)))
 
 read-as-numbered : (bytes : List ℕ) (s : Sheet) → Numbered 1 9 (readAs bytes s)
 read-as-numbered bytes s =

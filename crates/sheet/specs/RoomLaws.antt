@@ -7,16 +7,16 @@ use Rattle.sheet.specs.declared.Sheet.{Sheet}
 use Rattle.sheet.specs.declared.Field.{Field}
 use Rattle.answers.specs.Answers.{first}
 use Rattle.sheet.specs.AnswerLaws.{judged-whole}
-use Rattle.sheet.specs.Fields.{width, widths, place, value, judged}
-use Rattle.sheet.specs.Calls.{fieldsOf, judgeOf, judgedIn, endOf}
+use Rattle.sheet.specs.Fields.{width, widths, place}
+use Rattle.sheet.specs.Calls.{fieldsOf, judgedOn, judgeOf, judgedIn, endOf}
 use Rattle.sheet.specs.EachLaws.{All, all-map, first-same}
 use Rattle.sheet.specs.FormatLaws.{in-place-ends, fields-in-place}
 
 -- fields that end within the room are judged as in memory
-pub roomy-fields : (s : Sheet) (room : ℕ) (fs : List Field) → All (λ f. place (fieldsOf s) f + width f ≤ room) fs → first (judgedIn room s) fs ≡ first (judged (value s)) fs
+pub roomy-fields : (s : Sheet) (room : ℕ) (fs : List Field) → All (λ f. place (fieldsOf s) f + width f ≤ room) fs → first (judgedIn room s) fs ≡ first (judgedOn s) fs
 roomy-fields s room fs inside =
-    first-same (judgedIn room s) (judged (value s)) fs
-    (all-map (λ f. place (fieldsOf s) f + width f ≤ room) (λ f. judgedIn room s f ≡ judged (value s) f) fs (judged-whole room s) inside)
+    first-same (judgedIn room s) (judgedOn s) fs
+    (all-map (λ f. place (fieldsOf s) f + width f ≤ room) (λ f. judgedIn room s f ≡ judgedOn s f) fs (judged-whole room s) inside)
 
 pub roomy : (s : Sheet) (room : ℕ) → endOf s ≤ room → first (judgedIn room s) (fieldsOf s) ≡ judgeOf s
 unfolding judgeOf

@@ -10,10 +10,10 @@ use borrow.Author.Tests.{ltb-false, leb-false, eqb-false}
 use Rattle.sheet.specs.declared.Sheet.{Sheet}
 use Rattle.sheet.specs.declared.Field.the-variants.{Period, Budget, Rank, Entry}
 use Rattle.answers.specs.Answers.{fine, when}
-use Rattle.answers.specs.AnswerLaws.{when-fine, also-given}
-use Rattle.sheet.specs.Fields.{value, outside, among, judged}
-use Rattle.sheet.specs.Calls.{fieldsOf, judgeOf}
-use Rattle.sheet.specs.EachLaws.{Each, all-each, first-fine}
+use Rattle.answers.specs.AnswerLaws.{when-fine, with-value-fine, also-given}
+use Rattle.sheet.specs.Fields.{place, value, outside, among, judged}
+use Rattle.sheet.specs.Calls.{fieldsOf, judgedOn, judgeOf}
+use Rattle.sheet.specs.EachLaws.{all-map, Each, all-each, first-fine}
 use Rattle.sheet.specs.Sound.{Sound}
 
 -- ---- from a judgement to its fact
@@ -66,7 +66,10 @@ judged-sound s e =
     }
   where
     each : Each (λ f. judged (value s) f ≡ fine) (s .count) (s .length)
-    each = all-each (λ f. judged (value s) f ≡ fine) (first-fine (judged (value s)) (fieldsOf s) e)
+    each =
+        all-each (λ f. judged (value s) f ≡ fine)
+        (all-map (λ f. judgedOn s f ≡ fine) (λ f. judged (value s) f ≡ fine) (fieldsOf s) (λ f. with-value-fine (place (fieldsOf s) f) (judged (value s) f))
+        (first-fine (judgedOn s) (fieldsOf s) e))
 
     count : (1 ≤ s .count) × (s .count ≤ 16)
     count = inside 1 16 (s .count) (when-fine _ 2 (each .of-count))

@@ -5,15 +5,15 @@ use answers::Refusal;
 use answers::Verdict;
 use theory::Task;
 ghost use mathlib.Core.Path.{_≡_};
-ghost use Prim.Native.Nat.{_+_, _*_, _<_, _≤_, min};
+ghost use Prim.Native.Nat.{_+_, _-_, _*_, _<_, _≤_, min};
 ghost use lib.ListN.{getD};
 ghost use lib.Seq.{sets};
 ghost use Rattle.bits.specs.Bits.{unpack};
 ghost use Rattle.theory.specs.Model.Schedule.{none};
-ghost use Rattle.answers.specs.Answers.{when, first, told};
+ghost use Rattle.answers.specs.Answers.{when, withValue, first, told};
 ghost use Rattle.sheet.specs.Fields.{width, index, value, outside, among, judged};
 ghost use Rattle.sheet.specs.Order.{opening, next, nth, taskBits, taskAt, entryAt};
-ghost use Rattle.sheet.specs.Calls.{places, fieldsOf, judgedIn, packed, endOf, sheetOf, tailOf};
+ghost use Rattle.sheet.specs.Calls.{places, fieldsOf, judgedIn, packed, endOf, sheetOf, firstOne, tailOf};
 ghost use Rattle.sheet.specs.Answers.{blank};
 ghost use Rattle.sheet.specs.Promises.{JudgePromise, ReadPromise, WritePromise, WrittenRefusalPromise};
 ghost use Rattle.sheet.specs.declared.Field.the-variants.{Rank, Entry};
@@ -218,6 +218,19 @@ fn judge_field(s: Sheet, f: Field) -> Verdict
     }
 }
 
+// What was found of a field, a refusal with the bit at which the field begins.
+fn with_offset(v: Verdict, at: u32) -> Verdict
+    ensures { λ r. ⌜ told r ≡ withValue at (told v) ⌝ }
+{
+    let Verdict::No(refusal) = v else {
+        return Verdict::Fine;
+    };
+    match refusal {
+        Refusal::Number(number) => Verdict::No(Refusal::With(number, at)),
+        Refusal::With(number, _) => Verdict::No(Refusal::With(number, at)),
+    }
+}
+
 // The fields in order, in so many bytes.
 fn judge_fields(s: Sheet, len: usize) -> Verdict
     ensures { λ r. ⌜ told r ≡ first (judgedIn (len * 8) s) (fieldsOf s) ⌝ }
@@ -229,9 +242,10 @@ fn judge_fields(s: Sheet, len: usize) -> Verdict
     while 0 < left {
         let end = at + width_of(f);
         if len < ((end + 7) / 8) as usize {
-            return Verdict::No(Refusal::Number(1));
+            return Verdict::No(Refusal::With(1, at));
         }
-        let v = judge_field(s, f);
+        let found = judge_field(s, f);
+        let v = with_offset(found, at);
         let Verdict::Fine = v else {
             return v;
         };
@@ -332,17 +346,34 @@ fn spell(bytes: &[u8]) -> Sheet
     }
 }
 
+// The first bit that is 1 from a bit on, or the end if none before it is.
+fn first_one(bytes: &[u8], at: u32, end: u32) -> u32
+    requires { ⌜ (at ≤ end) × (end ≤ 100000) ⌝ }
+    ensures { λ r. ⌜ r ≡ firstOne (unpack (now (bytes .entry))) at (end - at) ⌝ }
+{
+    let mut k = at;
+    while k < end {
+        if 0 < bits::number(bytes, k, 1) {
+            return k;
+        }
+        k += 1;
+    }
+    end
+}
+
 // What follows the last field.
 fn judge_tail(bytes: &[u8], end: u32) -> Verdict
     requires { ⌜ end ≤ 65535 ⌝ }
     ensures { λ r. ⌜ told r ≡ tailOf (now (bytes .entry)) end ⌝ }
 {
     let size = (end + 7) / 8;
-    if (size as usize) < bytes.len() {
-        return Verdict::No(Refusal::Number(9));
+    let surplus = size * 8;
+    let wrong = first_one(bytes, end, surplus);
+    if wrong < surplus {
+        return Verdict::No(Refusal::With(9, wrong));
     }
-    if 0 < bits::number(bytes, end, size * 8 - end) {
-        return Verdict::No(Refusal::Number(9));
+    if (size as usize) < bytes.len() {
+        return Verdict::No(Refusal::With(9, surplus));
     }
     Verdict::Fine
 }

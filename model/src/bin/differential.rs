@@ -16,6 +16,9 @@ use std::process::exit;
 /// So many requests meet everything that the calls can answer.
 const ENOUGH: u64 = 50_000;
 
+/// Each of 1 to 9 is met at so many bits or more; 2 has one.
+const PLACES: usize = 12;
+
 /// An experiment goes over many hyperperiods, so there is one for so many requests.
 const REQUESTS_PER_EXPERIMENT: u64 = 20;
 
@@ -58,6 +61,8 @@ impl Run {
 struct Met {
     accepted: [u64; CALLS.len()],
     refused: [[u64; 16]; CALLS.len()],
+    /// Each number that comes with a bit, and that bit.
+    places: BTreeSet<(u8, u32)>,
     over: u64,
     /// Of the sheets that were taken with a table: task count with chain length, and how many have the greatest H and J.
     shapes: BTreeSet<(u8, u8)>,
@@ -70,7 +75,10 @@ impl Met {
         let at = q.call as usize - 1;
         match a.refusal {
             None => self.accepted[at] += 1,
-            Some(r) => self.refused[at][r.number as usize] += 1,
+            Some(r) => {
+                self.refused[at][r.number as usize] += 1;
+                self.places.extend(r.value.filter(|_| r.number <= 9).map(|bit| (r.number, bit)));
+            }
         }
         self.over += u64::from(q.call == Call::Lcm && a.values[0] == 0);
         let taken = a.refusal.is_none() && q.call.refusals().contains(&15);
@@ -86,6 +94,10 @@ impl Met {
         self.refused.iter().map(|numbers| numbers[number]).sum()
     }
 
+    fn bits_with(&self, number: u8) -> usize {
+        self.places.iter().filter(|place| place.0 == number).count()
+    }
+
     fn print(&self) {
         for (at, call) in CALLS.iter().enumerate() {
             let (name, accepted) = (format!("{call:?}"), self.accepted[at]);
@@ -94,6 +106,8 @@ impl Met {
         }
         let numbers: Vec<String> = (1..=15).map(|n| format!("{n}: {}", self.with_number(n))).collect();
         println!("  refusals by number: {}", numbers.join(", "));
+        let bits: Vec<String> = (1..=9).map(|n| format!("{n}: {}", self.bits_with(n))).collect();
+        println!("  different bits by number: {}", bits.join(", "));
         println!(
             "  {} pairs of task count and chain length taken, {} times H 1,000,000, {} times J 8,192",
             self.shapes.len(),
@@ -112,6 +126,8 @@ impl Met {
             let never = call.refusals().into_iter().filter(|&n| self.refused[at][n as usize] == 0);
             missing.extend(never.map(|n| format!("{call:?} refused {n}")));
         }
+        let few = (1..=9).filter(|&n| self.bits_with(n) < if n == 2 { 1 } else { PLACES });
+        missing.extend(few.map(|n| format!("{n} at {PLACES} bits")));
         let shapes = (1..=16).flat_map(|n| (1..=n).map(move |m| (n, m))).filter(|shape| !self.shapes.contains(shape));
         missing.extend(shapes.map(|(n, m)| format!("{n} tasks with a chain of {m}")));
         let once = [(self.over, "a multiple over its limit"), (self.greatest_hyperperiod, "H 1,000,000"), (self.most_jobs, "J 8,192")];

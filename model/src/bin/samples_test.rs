@@ -12,6 +12,7 @@ fn main() {
     let trio = tasks(&[(8, 1, 1), (2, 1, 3), (4, 1, 2)]);
     let radio = tasks(&[(20, 5, 1), (6, 1, 3), (12, 3, 2)]);
     let quartet = tasks(&[(6, 1, 4), (6, 1, 3), (3, 1, 2), (6, 1, 1)]);
+    let radio_bits = raw_bits(3, &radio, 3, &[0, 1, 2]);
     let lone = tasks(&[(5, 5, 1)]);
     let pair = |a, b| tasks(&[(a, 1, 2), (b, 1, 1)]);
     let sixteen: Vec<(u32, u32, u8)> = (0..16).map(|i| ([4_000, 5_000, 8_000, 10_000][i % 4], 100 + 7 * i as u32, (i * 7 % 16) as u8)).collect();
@@ -31,11 +32,14 @@ fn main() {
         ("refused-2-count", packed(&raw_bits(17, &[], 1, &[0]))),
         ("refused-3-period", encoded(&tasks(&[(100_001, 1, 1)]), &[0])),
         ("refused-4-budget", encoded(&tasks(&[(5, 6, 1)]), &[0])),
+        ("refused-4-mistyped", encoded(&tasks(&[(20, 5, 1), (6, 9, 3), (12, 3, 2)]), &[0, 1, 2])),
         ("refused-5-rank", encoded(&tasks(&[(5, 1, 3), (7, 1, 3)]), &[0])),
         ("refused-6-chain-length", packed(&raw_bits(1, &lone, 2, &[0, 0]))),
         ("refused-7-entry", encoded(&radio, &[0, 3])),
         ("refused-8-repeat", encoded(&radio, &[0, 1, 0])),
         ("refused-9-surplus", [encoded(&lone, &[0]), vec![0]].concat()),
+        ("refused-9-padding", packed(&format!("{radio_bits}0010"))),
+        ("refused-9-padding-and-surplus", packed(&format!("{radio_bits}000100000001"))),
         ("refused-10-hyperperiod", encoded(&pair(1_000, 1_001), &[0])),
         ("refused-11-jobs", encoded(&pair(2, 16_384), &[0])),
         ("refused-15-late", encoded(&pair(2, 3).iter().map(|t| Task { budget: t.period - 1, ..*t }).collect::<Vec<_>>(), &[0])),

@@ -18,9 +18,12 @@ Inv-loop values₀ reply i₀ values i = (i ≤ reply .count) × (values ≡ set
 abbrev μ-loop : tie.MeasureT-loop
 μ-loop values₀ reply i₀ values i = reply .count - i
 
--- The turn that a value was put in.
+-- The turn that a value is put in, from where the value is known and from where it is put.
+abbrev taken : tie.After-put-arg2 Inv-loop μ-loop → tie.At-loop Inv-loop μ-loop
+taken c = c .before .before .before
+
 abbrev turn : tie.After-values Inv-loop μ-loop → tie.At-loop Inv-loop μ-loop
-turn c = c .before .before .before .before .before
+turn c = taken (c .before .before)
 
 loop-holds : tie.Need-loop-holds Inv-loop μ-loop
 loop-holds c = (omega arith, refl)

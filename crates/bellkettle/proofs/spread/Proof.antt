@@ -21,9 +21,12 @@ Inv-loop periods₀ budgets₀ ranks₀ chain₀ s i₀ periods budgets ranks ch
 abbrev μ-loop : tie.MeasureT-loop
 μ-loop periods₀ budgets₀ ranks₀ chain₀ s i₀ periods budgets ranks chain i = 16 - i
 
--- The turn's way back to the call.
+-- The start, from where the four slices are known and from a turn.
+abbrev lent : tie.After-slice-known4 Inv-loop μ-loop → tie.Start Inv-loop μ-loop
+lent c = c .before .before .before .before
+
 abbrev start : tie.At-loop Inv-loop μ-loop → tie.Start Inv-loop μ-loop
-start turn = turn .before .before .before .before .before
+start turn = lent (turn .before)
 
 loop-holds : tie.Need-loop-holds Inv-loop μ-loop
 unfolding listOf

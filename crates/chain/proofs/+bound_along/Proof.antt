@@ -32,6 +32,10 @@ abbrev claims : ℕ → bound-along-lts.Claims
 claims t =
     (task-response-reads.Asked, task-response-reads.Learnt, pair-bound-reads.Asked, pair-bound-reads.Learnt, bound-along-below t, bound-along.Post)
 
+-- The start, from where the length of the chain is asked for.
+abbrev opened : (t : ℕ) → bound-along-lts.After-shared-slice-known3 (claims t) (bound-along-at t) bound-along.Post → bound-along-lts.Start (claims t) (bound-along-at t) bound-along.Post
+opened t c = c .before .before .before
+
 bound-along-shared-slice-read-p : (t : ℕ) → bound-along-lts.Need-shared-slice-read-p (claims t) (bound-along-at t) bound-along.Post
 bound-along-shared-slice-read-p t c = search needs
 
@@ -39,11 +43,11 @@ bound-along-cast-p : (t : ℕ) → bound-along-lts.Need-cast-p (claims t) (bound
 bound-along-cast-p t c = omega (arith, c .shared-slice-known3 .given 0)
 
 bound-along-task-response-requires : (t : ℕ) → bound-along-lts.Need-task-response-requires (claims t) (bound-along-at t) bound-along.Post
-bound-along-task-response-requires t c κs = let path = c .before .before .before .before .pre .1 .0 in path .entry 0 (path .some) .row
+bound-along-task-response-requires t c κs = let path = opened t (c .before) .pre .1 .0 in path .entry 0 (path .some) .row
 
 bound-along-returns : (t : ℕ) → bound-along-lts.Need-returns (claims t) (bound-along-at t) bound-along.Post
 bound-along-returns t c =
-    let a = c .before .before .before .before .before .args in
+    let a = opened t (c .before .before) .args in
     c .task-response .ensures
     ∙ sym (bound-one (a .plan .now) (a .table .now) (a .chain .now) (c .before .if1 .taken))
 
@@ -55,7 +59,7 @@ bound-along-cast-c t c = omega (arith, c .shared-slice-known4 .given 1)
 
 bound-along-pair-bound-requires : (t : ℕ) → bound-along-lts.Need-pair-bound-requires (claims t) (bound-along-at t) bound-along.Post
 bound-along-pair-bound-requires t c κs =
-    let s = c .before .before .before .before .before in
+    let s = opened t (c .before .before) in
     let path = s .pre .1 .0 in
     (path .entry 0 (path .some), path .entry 1 (omega (arith, path .some, c .before .if1 .left)))
 
@@ -71,7 +75,7 @@ bound-along-part-bound-along-end t c = search needs
 -- After the pair: the rest of the chain.
 module _ (t : ℕ) (c : bound-along-lts.After-pair-bound (claims t) (bound-along-at t) bound-along.Post) where
   abbrev start : bound-along-lts.Start (claims t) (bound-along-at t) bound-along.Post
-  start = c .before .before .before .before .before .before
+  start = opened t (c .before .before .before)
 
   abbrev chain : List ℕ
   chain = start .args .chain .now

@@ -32,6 +32,10 @@ walk-below t = and 3 walk-kinds.ps (falls 3 walk-kinds.ps _<_ μ-walk t) walk.Pr
 abbrev claims : ℕ → walk-lts.Claims
 claims t = (response-of-reads.Asked, response-of-reads.Learnt, hand-over-reads.Asked, hand-over-reads.Learnt, walk-below t, walk.Post)
 
+-- The start, from where the length of the chain is asked for.
+abbrev opened : (t : ℕ) → walk-lts.After-shared-slice-known3 (claims t) (walk-at t) walk.Post → walk-lts.Start (claims t) (walk-at t) walk.Post
+opened t c = c .before .before .before
+
 walk-shared-slice-read-p : (t : ℕ) → walk-lts.Need-shared-slice-read-p (claims t) (walk-at t) walk.Post
 walk-shared-slice-read-p t c = search needs
 
@@ -39,11 +43,11 @@ walk-cast-p : (t : ℕ) → walk-lts.Need-cast-p (claims t) (walk-at t) walk.Pos
 walk-cast-p t c = omega (arith, c .shared-slice-known3 .given 0)
 
 walk-response-of-requires : (t : ℕ) → walk-lts.Need-response-of-requires (claims t) (walk-at t) walk.Post
-walk-response-of-requires t c κs = let path = c .before .before .before .before .pre .1 .0 in path .entry 0 (path .some) .row
+walk-response-of-requires t c κs = let path = opened t (c .before) .pre .1 .0 in path .entry 0 (path .some) .row
 
 walk-returns : (t : ℕ) → walk-lts.Need-returns (claims t) (walk-at t) walk.Post
 walk-returns t c =
-    let s = c .before .before .before .before .before in
+    let s = opened t (c .before .before) in
     let a = s .args in
     let path = s .pre .1 .0 in
     c .response-of .ensures
@@ -57,7 +61,7 @@ walk-cast-c t c = omega (arith, c .shared-slice-known4 .given 1)
 
 walk-hand-over-requires : (t : ℕ) → walk-lts.Need-hand-over-requires (claims t) (walk-at t) walk.Post
 walk-hand-over-requires t c κs =
-    let s = c .before .before .before .before .before in
+    let s = opened t (c .before .before) in
     let path = s .pre .1 .0 in
     let more : 1 < length (s .args .chain .now) = omega (arith, path .some, c .before .if1 .left) in
     (path .entry 0 (path .some), (path .entry 1 more, omega (arith, s .pre .1 .1)))
@@ -74,7 +78,7 @@ walk-part-walk-end t c = search needs
 -- At the hand-over: the rest of the chain, and how far the next release lies.
 module _ (t : ℕ) (c : walk-lts.After-hand-over (claims t) (walk-at t) walk.Post) where
   abbrev start : walk-lts.Start (claims t) (walk-at t) walk.Post
-  start = c .before .before .before .before .before .before
+  start = opened t (c .before .before .before)
 
   abbrev chain : List ℕ
   chain = start .args .chain .now

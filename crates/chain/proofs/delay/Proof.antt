@@ -20,18 +20,21 @@ use Rattle.chain.specs.ReleaseLaws.{job-early, job-release}
 use Rattle.chain.proofs.delay.Statement.{statement}
 use Rattle.chain.proofs.delay.Tie as tie
 
--- The start; where H and J are refused or known, and the release then lies between two of the first task's or is one; and the table as `responses` leaves it, before a refusal and where it is filled.
+-- The start; where H and J are refused or known, and the release then lies before H, and there between two of the first task's or is one; and the table as `responses` leaves it, before a refusal and where it is filled.
 abbrev start : tie.After-z → tie.Start
 start c = c .before .before .before .before
 
 abbrev unsized : tie.After-enum-told → tie.Start
 unsized c = c .before .before .before .before
 
+abbrev inside : tie.Else1 → tie.After-z
+inside c = c .before .before .before
+
 abbrev between : tie.Then2 → tie.After-z
-between c = c .before .before .before .before .before
+between c = inside (c .before .before)
 
 abbrev sized : tie.Else2 → tie.After-z
-sized c = c .before .before .before .before .before
+sized c = inside (c .before .before)
 
 abbrev judged : tie.After-responses → tie.Else2
 judged c = c .before .before
@@ -50,8 +53,8 @@ sound : (c : tie.After-z) → Sound (start c .args .s)
 sound c = let s = start c .args .s in judged-sound s (sizes-given s (fits c) .judged-fine)
 
 -- The release is before H,
-early : (c : tie.Else1) → let a = start (c .before .before .before) .args in a .release < hyperperiod (tasksOf (a .s))
-early c = omega (arith, c .if1 .left, sizes-given _ (fits (c .before .before .before)) .hyperperiod-is)
+early : (c : tie.Else1) → let a = start (inside c) .args in a .release < hyperperiod (tasksOf (a .s))
+early c = omega (arith, c .if1 .left, sizes-given _ (fits (inside c)) .hyperperiod-is)
 
 -- and one of the first task's.
 whole : (c : tie.Else2) → let a = start (sized c) .args in a .release % period (tasksOf (a .s)) (firstOf (chainOf (a .s))) ≤ 0
@@ -82,7 +85,7 @@ returns-2 c =
     (delay-beyond (a .s) (length (a .table .now)) f (a .release) (omega (arith, c .if1 .taken, sizes-given _ f .hyperperiod-is)))
 
 first-period-requires : tie.Need-first-period-requires
-first-period-requires c κs = sound (c .before .before .before)
+first-period-requires c κs = sound (inside c)
 
 rem-if2 : tie.Need-rem-if2
 rem-if2 c = c .first-period .ensures .1

@@ -20,13 +20,20 @@ use Rattle.chain.specs.Largest.{worst-most}
 use Rattle.chain.proofs.figures.Statement.{statement}
 use Rattle.chain.proofs.figures.Tie as tie
 
+-- The start, from where the responses are worked out; and that place, from where it is asked whether they are refused.
+abbrev opened : tie.After-task-responses → tie.Start
+opened c = c .before .before .before
+
+abbrev worked-out : tie.After-greatest → tie.After-task-responses
+worked-out c = c .before .before .before
+
 -- The table is filled.
 module _ (c : tie.After-answer) where
-  abbrev start : tie.Start
-  start = c .before .before .before .before .before .before .before .before
-
   abbrev done : tie.After-task-responses
-  done = c .before .before .before .before .before
+  done = worked-out (c .before .before)
+
+  abbrev start : tie.Start
+  start = opened done
 
   filled : responsesOf (start .args .s) (length (start .args .table .now)) ≡ given (c .answer .given .0 .0)
   filled = sym (done .task-responses .ensures .0 .0) ∙ ap toldTotals (c .answer .given .1)
@@ -40,8 +47,9 @@ module _ (c : tie.After-answer) where
 returns : tie.Need-returns
 unfolding figuresOf
 returns c =
-    let a = c .before .before .before .before .before .before .before .before .before .args in
-    let r = c .before .before .before .before .before .before .task-responses in
+    let refused = worked-out (c .before .before .before) in
+    let a = opened refused .args in
+    let r = refused .task-responses in
     let no = c .before .enum-told .given .1 in
     let ended = answers-no (a .s) (a .table .now) _ (c .responses-refusal .result)
     (responses-no (r .ensures .0 .0) no (c .responses-refusal .ensures))
@@ -55,17 +63,20 @@ bound-in-requires : tie.Need-bound-in-requires
 bound-in-requires c κs = ready (c .before .before .before .before)
 
 less-of-requires : tie.Need-less-of-requires
-less-of-requires c κs = (omega arith, omega (arith, ap (λ f. f .ticks) (c .before .before .worst-in .ensures), worst-most (taken (c .before .before .before .before .before))))
+less-of-requires c κs =
+    let w = c .before .before in
+    (omega arith, omega (arith, ap (λ f. f .ticks) (w .worst-in .ensures), worst-most (taken (w .before .before .before))))
 
 returns-2 : tie.Need-returns-2
 unfolding figuresOf
 returns-2 c =
-    let f = c .before .before .before .before .before .before in
+    let w = c .before .before .before in
+    let f = w .before .before .before in
     let a = start f .args in
     let r = done f .task-responses in
     let read = toZ-ofZ w32 (c .less-of .result) (record { sfits = c .less-of .ok }) in
-    let summary : Summary = record { totals = f .answer .given .0 .0; worst = c .before .before .before .worst-in .result; bound = c .before .bound-in .result; margin = c .less-of .result } in
-    let same : summaryOf (tasksOf (a .s)) (chainOf (a .s)) (f .answer .given .0 .0) ≡ summary = rw (c .less-of .ensures, c .before .bound-in .ensures, c .before .before .before .worst-in .ensures) refl in
+    let summary : Summary = record { totals = f .answer .given .0 .0; worst = w .worst-in .result; bound = c .before .bound-in .result; margin = c .less-of .result } in
+    let same : summaryOf (tasksOf (a .s)) (chainOf (a .s)) (f .answer .given .0 .0) ≡ summary = rw (c .less-of .ensures, c .before .bound-in .ensures, w .worst-in .ensures) refl in
     let ended = answers-given (a .s) (a .table .now) _ (filled f) (ap given same)
     (r .ensures .0 .1) in
     rw read (ended, r .ensures .1)

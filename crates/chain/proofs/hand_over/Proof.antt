@@ -13,20 +13,24 @@ use Rattle.chain.specs.ReadLaws.{row-most, next-in}
 use Rattle.chain.proofs.hand_over.Statement.{statement}
 use Rattle.chain.proofs.hand_over.Tie as tie
 
+-- The start, from where the ranks are compared.
+abbrev opened : tie.After-if12 → tie.Start
+opened c = c .before .before .before .before
+
 -- The reading is ready at the producer's finish where the consumer outranks it, and at its release otherwise.
 ready-is : (c : tie.Joined1)
-    → let a = c .before .before .before .before .before .args in
+    → let a = opened (c .before) .args in
     let r = a .k * periodIn (a .plan .now) (a .p) in
     c .if1 .ready ≡ cond (waitsIn (a .plan .now) (a .p) (a .c)) (r + rowsIn (a .plan .now) (a .table .now) (a .p) (a .k)) r
 ready-is c =
-    let a = c .before .before .before .before .before .args in
+    let a = opened (c .before) .args in
     ⊎-elim (λ w. rw (lt-ltb _ _ (w .0 .taken)) (w .2 ∙ ap (λ x. a .k * periodIn (a .plan .now) (a .p) + x) (w .1 .ensures)))
     (λ w. rw (le-ltb _ _ (w .0 .left)) (w .1)) (c .if1 .came)
 
 -- The next release, and where it lies.
 module _ (c : tie.Joined1) where
   abbrev start : tie.Start
-  start = c .before .before .before .before .before
+  start = opened (c .before)
 
   abbrev release : ℕ
   release = start .args .k * periodIn (start .args .plan .now) (start .args .p)
@@ -47,7 +51,7 @@ module _ (c : tie.Joined1) where
 
 add-ready : tie.Need-add-ready
 add-ready c =
-    let s = c .before .before .before .before .before .before in
+    let s = opened (c .before .before) in
     omega (arith, s .pre .1 .1, c .response-of .ensures, row-most (s .pre .0 .row) (s .args .k))
 
 add-job : tie.Need-add-job

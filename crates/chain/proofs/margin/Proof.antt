@@ -16,11 +16,8 @@ use Rattle.chain.proofs.margin.Statement.{statement}
 use Rattle.chain.proofs.margin.Tie as tie
 
 -- The start, for a limit that is over and for one that is allowed; and the table as `worst` leaves it, before a refusal and where the figure is known.
-abbrev over : tie.After-enum-told → tie.Start
-over c = c .before .before .before .before .before
-
-abbrev over-refused : tie.After-enum-told2 → tie.Start
-over-refused c = c .before .before .before .before .before
+abbrev over : tie.After-sizes → tie.Start
+over c = c .before .before .before
 
 abbrev start : tie.Else1 → tie.Start
 start c = c .before .before
@@ -35,7 +32,7 @@ abbrev done : tie.After-w → tie.After-worst
 done c = c .before .before .before .before
 
 -- H and J are within their limits.
-fits : (c : tie.After-enum-told) → sizesOf (over c .args .s) ≡ given (c .enum-told .given .0 .0)
+fits : (c : tie.After-enum-told) → sizesOf (over (c .before .before) .args .s) ≡ given (c .enum-told .given .0 .0)
 fits c = sym (c .before .before .sizes .ensures) ∙ ap toldSize (c .enum-told .given .1)
 
 asked : (c : tie.Else1) → let a = start c .args in
@@ -49,7 +46,7 @@ known c = sym (done c .worst .ensures .0) ∙ ap toldWorst (c .w .given .1)
 returns : tie.Need-returns
 unfolding marginOf
 returns c =
-    let a = over-refused (c .before) .args in
+    let a = over (c .before .before .before) .args in
     let no = c .before .enum-told2 .given .1 in
     let e : sizesOf (a .s) ≡ refusal (c .sizes-refusal .result) =
     sizes-no (c .before .before .before .sizes .ensures) no (c .sizes-refusal .ensures) in
@@ -57,7 +54,7 @@ returns c =
 
 returns-2 : tie.Need-returns-2
 returns-2 c =
-    let a = over c .args in
+    let a = over (c .before .before) .args in
     answers-number 13 (a .s) (a .table .now) (omega arith) (margin-over (a .s) (length (a .table .now)) (fits c) (a .limit) (c .before .before .before .if1 .taken))
 
 same-length : tie.Need-same-length

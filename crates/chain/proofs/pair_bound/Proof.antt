@@ -32,18 +32,24 @@ module _ (s : tie.Start) where
     s .pre .1 .period-most,
   )
 
--- The start, and the greatest common divisor, where the least multiple of it is found.
-abbrev start : tie.After-up → tie.Start
-start c = c .before .before .before .before .before .before .before .before .before .before
+-- The start, from where the greatest common divisor is known; that place, from where the ranks are compared; and both, from where the least multiple of it is found.
+abbrev opened : tie.After-gcd → tie.Start
+opened c = c .before .before .before .before
+
+abbrev compared : tie.After-if13 → tie.After-gcd
+compared c = c .before .before .before
 
 abbrev divisor : tie.After-up → tie.After-gcd
-divisor c = c .before .before .before .before .before .before
+divisor c = compared (c .before .before .before)
+
+abbrev start : tie.After-up → tie.Start
+start c = opened (divisor c)
 
 up-is : (c : tie.After-up) → let s = start c in c .up .result ≡ up (g s) (R s)
 up-is c = c .up .ensures ∙ ap₂ up (divisor c .gcd .ensures) (c .before .task-response .ensures)
 
 sub-ticks : tie.Need-sub-ticks
-sub-ticks c = omega (arith, c .before .gcd .ensures, g-most (c .before .before .before .before .before))
+sub-ticks c = omega (arith, c .before .gcd .ensures, g-most (opened (c .before)))
 
 cast-ticks : tie.Need-cast-ticks
 cast-ticks c = omega (arith, up-is c, up-most (start c))
@@ -61,9 +67,9 @@ returns c =
 
 returns-2 : tie.Need-returns-2
 returns-2 c =
-    let s = c .before .before .before .before .before .before .before .before in
+    let s = opened (compared (c .before)) in
     rw (le-ltb _ _ (c .if1 .left))
-    (omega (arith, c .before .before .before .before .gcd .ensures))
+    (omega (arith, compared (c .before) .gcd .ensures))
 
 pub pair-bound-spec : {M : Type 1} → statement M
 pair-bound-spec =

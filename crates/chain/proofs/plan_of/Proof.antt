@@ -20,25 +20,31 @@ Inv-loop h s n plan₀ from₀ i₀ plan from i = (i ≤ n) × (from ≡ sum i (
 abbrev μ-loop : tie.MeasureT-loop
 μ-loop h s n plan₀ from₀ i₀ plan from i = n - i
 
+-- The turn, from where its task is known.
+abbrev turn : tie.After-struct-known Inv-loop μ-loop → tie.At-loop Inv-loop μ-loop
+turn c = c .before .before .before
+
 loop-holds : tie.Need-loop-holds Inv-loop μ-loop
 unfolding sum
 loop-holds c = (omega arith, refl, planned-none (tasksOf (c .args .t1)) refl)
 
 div-jobs : tie.Need-div-jobs Inv-loop μ-loop
-div-jobs c = let s = c .before .before .before .before in s .pre .0 .0 .period-least (c .before .before .before .loop .i) (omega arith)
+div-jobs c = let s = turn c .before in s .pre .0 .0 .period-least (turn c .loop .i) (omega arith)
 
 add-from : tie.Need-add-from Inv-loop μ-loop
 add-from c =
-    let s = c .before .before .before .before .before in
-    let l = c .before .before .before .before .loop in
+    let t = turn (c .before) in
+    let s = t .before in
+    let l = t .loop in
     let known : l .i < s .args .t1 .count = omega arith in
     omega (arith, l .inv .1, jobs-at (s .pre .0 .0) (s .pre .1) (l .i) known, row-few (s .pre .0 .1) (l .i) (omega (arith, tasks-length (s .pre .0 .0))))
 
 loop-again : tie.Need-loop-again Inv-loop μ-loop
 unfolding sum
 loop-again c =
-    let s = c .before .before .before .before .before in
-    let l = c .before .before .before .before .loop in
+    let t = turn (c .before) in
+    let s = t .before in
+    let l = t .loop in
     let known : l .i < s .args .t1 .count = omega arith in
     let count = sym (jobs-at (s .pre .0 .0) (s .pre .1) (l .i) known) in
     (omega arith, rw add-one (ap₂ _+_ (l .inv .1) count), planned-more (s .pre .0 .0) (l .i) known (l .from) _ (l .inv .2) (l .inv .1) count)

@@ -11,22 +11,29 @@ use Rattle.chain.specs.ReadLaws.{row-place}
 use Rattle.chain.proofs.response_of.Statement.{statement}
 use Rattle.chain.proofs.response_of.Tie as tie
 
-job-is : (c : tie.Joined1) → let a = c .before .before .args in c .if1 .job ≡ a .k % countIn (a .plan .now) (a .i)
+-- The start, from where the job is known; and that place, from where its row is.
+abbrev start : tie.Joined1 → tie.Start
+start c = c .before .before
+
+abbrev known : tie.After-row-known → tie.Joined1
+known c = c .before .before
+
+job-is : (c : tie.Joined1) → let a = start c .args in c .if1 .job ≡ a .k % countIn (a .plan .now) (a .i)
 job-is c = ⊎-elim (λ w. w .1) (λ w. w .1 ∙ sym (mod-eq-of-lt (omega (arith, w .0 .left)))) (c .if1 .came)
 
-place : (c : tie.After-row-known) → let a = c .before .before .before .before .args in c .before .before .if1 .job < countIn (a .plan .now) (a .i)
-place c = let s = c .before .before .before .before in omega (arith, job-is (c .before .before), row-place (s .pre) (s .args .k))
+place : (c : tie.After-row-known) → let a = start (known c) .args in known c .if1 .job < countIn (a .plan .now) (a .i)
+place c = let s = start (known c) in omega (arith, job-is (known c), row-place (s .pre) (s .args .k))
 
 add-at-2 : tie.Need-add-at-2
-add-at-2 c = omega (arith, place c, c .before .before .before .before .pre)
+add-at-2 c = omega (arith, place c, start (known c) .pre)
 
 shared-slice-read-result : tie.Need-shared-slice-read-result
-shared-slice-read-result c = omega (arith, place (c .before), c .before .before .before .before .before .pre)
+shared-slice-read-result c = omega (arith, place (c .before), start (known (c .before)) .pre)
 
 returns : tie.Need-returns
 returns c =
-    let a = c .before .before .before .before .before .args in
-    ap (λ k. getD (a .table .now) (startIn (a .plan .now) (a .i) + k) 0) (job-is (c .before .before .before))
+    let a = start (known (c .before)) .args in
+    ap (λ k. getD (a .table .now) (startIn (a .plan .now) (a .i) + k) 0) (job-is (known (c .before)))
 
 pub response-of-spec : {M : Type 1} → statement M
 response-of-spec =

@@ -6,7 +6,10 @@ use Rattle.chain.proofs.task_response.Statement.{statement}
 use Rattle.chain.proofs.task_response.Tie as tie
 
 returns : tie.Need-returns
-returns c = c .greatest .ensures ∙ part-greatest (c .before .before .before .before .before .pre)
+returns c =
+    let ended = c .before .before in
+    let start = ended .before .before .before in
+    c .greatest .ensures ∙ part-greatest (start .pre)
 
 pub task-response-spec : {M : Type 1} → statement M
 task-response-spec =

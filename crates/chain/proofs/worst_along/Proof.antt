@@ -24,6 +24,16 @@ abbrev μ-loop : tie.MeasureT-loop
 μ-loop chain plan table p n from ticks₀ at₀ followed₀ k₀ ticks at followed k =
     n - k
 
+-- The start, from where the first task's row is read; that place, from a turn; and the turn, from where the first hand-over is known.
+abbrev opened : tie.After-shared-slice-known3 Inv-loop μ-loop → tie.Start Inv-loop μ-loop
+opened c = c .before .before .before
+
+abbrev begun : tie.At-loop Inv-loop μ-loop → tie.Start Inv-loop μ-loop
+begun turn = opened (turn .before .before .before)
+
+abbrev turn : tie.After-struct-known Inv-loop μ-loop → tie.At-loop Inv-loop μ-loop
+turn c = c .before .before .before
+
 -- The first task on the chain, and where its releases lie.
 module _ (s : tie.Start Inv-loop μ-loop) where
   abbrev first : ℕ
@@ -38,28 +48,28 @@ module _ (s : tie.Start Inv-loop μ-loop) where
 -- Once the reading of job k is opened: the chain that is left, and the whole delay.
 module _ (c : tie.After-struct-known Inv-loop μ-loop) where
   abbrev start : tie.Start Inv-loop μ-loop
-  start = c .before .before .before .before .before .before .before .before .before
+  start = begun (turn c)
 
   abbrev chain : List ℕ
   chain = start .args .chain .now
 
   abbrev k : ℕ
-  k = c .before .before .before .loop .k
+  k = turn c .loop .k
 
   abbrev delays : List ℕ → ℕ → ℕ
   delays = delayIn (start .args .plan .now) (start .args .table .now)
 
   abbrev from : ℕ
-  from = c .before .before .before .before .onward .result
+  from = turn c .before .onward .result
 
   left : take (length chain - from) (drop from chain) ≡ ahead chain
-  left = part-from from chain ∙ ap (λ n. drop n chain) (c .before .before .before .before .onward .ensures)
+  left = part-from from chain ∙ ap (λ n. drop n chain) (turn c .before .onward .ensures)
 
   whole : (rest : ℕ) → rest ≡ delays (take (length chain - from) (drop from chain)) (c .before .first-hand-over .result .job) → c .before .first-hand-over .result .wait + rest ≡ delays chain k
   whole rest e = ap (λ x. c .before .first-hand-over .result .wait + x) (e ∙ ap (λ part. delays part (c .before .first-hand-over .result .job)) left) ∙ sym (c .before .first-hand-over .ensures .delay-is)
 
   from-within : from ≤ length chain
-  from-within = omega (arith, c .before .before .before .before .onward .ensures, ahead-few (start .pre .0) (start .pre .1 .0))
+  from-within = omega (arith, turn c .before .onward .ensures, ahead-few (start .pre .0) (start .pre .1 .0))
 
   onward-path : ChainIn (start .args .plan .now) (start .args .table .now) (ahead chain)
   onward-path = ahead-path (start .pre .0)
@@ -70,7 +80,7 @@ module _ (c : tie.After-struct-known Inv-loop μ-loop) where
     arith,
     c .before .first-hand-over .ensures .meets,
     c .before .first-hand-over .ensures .near,
-    release-most start k (c .before .before .before .loop .inv .0),
+    release-most start k (turn c .loop .inv .0),
   )
 
   -- and so is its job.
@@ -84,26 +94,26 @@ module _ (c : tie.After-struct-known Inv-loop μ-loop) where
       )
 
 cast-p : tie.Need-cast-p Inv-loop μ-loop
-cast-p c = omega (arith, entry (c .before .before .before) .row .known)
+cast-p c = omega (arith, entry (opened c) .row .known)
 
 mul-n : tie.Need-mul-n Inv-loop μ-loop
-mul-n c = omega (arith, entry (c .before .before .before) .row .known)
+mul-n c = omega (arith, entry (opened c) .row .known)
 
 add-n : tie.Need-add-n Inv-loop μ-loop
-add-n c = omega (arith, entry (c .before .before .before) .row .known)
+add-n c = omega (arith, entry (opened c) .row .known)
 
 mul-n-2 : tie.Need-mul-n-2 Inv-loop μ-loop
-mul-n-2 c = omega (arith, entry (c .before .before .before) .row .known)
+mul-n-2 c = omega (arith, entry (opened c) .row .known)
 
 element-copy-out-n : tie.Need-element-copy-out-n Inv-loop μ-loop
-element-copy-out-n c = omega (arith, entry (c .before .before .before) .row .known)
+element-copy-out-n c = omega (arith, entry (opened c) .row .known)
 
 loop-holds : tie.Need-loop-holds Inv-loop μ-loop
 loop-holds c = (omega arith, followed-none _ _ _ _)
 
 first-hand-over-requires : tie.Need-first-hand-over-requires Inv-loop μ-loop
 first-hand-over-requires c κs =
-    let s = c .before .before .before .before .before .before .before in
+    let s = begun (c .before) in
     let k = c .before .loop .k in
     (s .pre .0, omega (arith, release-most s k (c .before .loop .inv .0)))
 
@@ -116,7 +126,7 @@ add-followed c = omega (arith, job-most (c .before .before))
 sub-walk : tie.Need-sub-walk Inv-loop μ-loop
 sub-walk c =
     let b = c .before .before in
-    omega (arith, b .before .before .before .before .onward .ensures, ahead-few (start b .pre .0) (start b .pre .1 .0))
+    omega (arith, turn b .before .onward .ensures, ahead-few (start b .pre .0) (start b .pre .1 .0))
 
 part-walk-start : tie.Need-part-walk-start Inv-loop μ-loop
 part-walk-start c = from-within (c .before .before)
@@ -128,16 +138,17 @@ walk-requires c κs =
 
 add-delay : tie.Need-add-delay Inv-loop μ-loop
 add-delay c =
-    let b = c .before .before .before .before .before in
+    let walked = c .before .before .before in
+    let b = walked .before .before in
     omega (arith, whole b (c .before .walk .result) (c .before .walk .ensures), path-delay (start b .pre .0) (k b), start b .pre .1 .0)
 
 add-k : tie.Need-add-k Inv-loop μ-loop
-add-k c = let s = start (c .before) in omega (arith, c .before .before .before .before .loop .inv .0, entry s .row .few, c .before .before .before .loop-test .taken)
+add-k c = let s = start (c .before) in omega (arith, turn (c .before) .loop .inv .0, entry s .row .few, c .before .before .before .loop-test .taken)
 
 loop-again : tie.Need-loop-again Inv-loop μ-loop
 loop-again c =
     let b = c .before in
-    let l = b .before .before .before .loop in
+    let l = turn b .loop in
     let o = b .before .first-hand-over .ensures in (
       omega (arith, b .before .before .loop-test .taken),
       ⊎-elim
@@ -151,23 +162,23 @@ loop-again c =
     )
 
 mul-release : tie.Need-mul-release Inv-loop μ-loop
-mul-release c = omega (arith, entry (c .before .before .before .before .before .before .before) .row .known)
+mul-release c = omega (arith, entry (begun (c .before)) .row .known)
 
 mul-release-2 : tie.Need-mul-release-2 Inv-loop μ-loop
-mul-release-2 c = omega (arith, entry (c .before .before .before .before .before .before .before) .row .known)
+mul-release-2 c = omega (arith, entry (begun (c .before)) .row .known)
 
 element-copy-out-release : tie.Need-element-copy-out-release Inv-loop μ-loop
-element-copy-out-release c = omega (arith, entry (c .before .before .before .before .before .before .before) .row .known)
+element-copy-out-release c = omega (arith, entry (begun (c .before)) .row .known)
 
 mul-release-3 : tie.Need-mul-release-3 Inv-loop μ-loop
 mul-release-3 c =
-    let s = c .before .before .before .before .before .before .before .before in
+    let s = begun (c .before .before) in
     let l = c .before .before .loop in
     omega (arith, release-most s (l .at) (omega (arith, l .inv .0, l .inv .1 .greatest .early)))
 
 returns : tie.Need-returns Inv-loop μ-loop
 returns c =
-    let s = c .before .before .before .before .before .before .before .before in
+    let s = begun (c .before .before) in
     let l = c .before .before .loop in
     let a = s .args in
     let n = countIn (a .plan .now) (first s) in

@@ -6,14 +6,30 @@ use borrow.Author.Needs.{needs}
 use Rattle.probe.proofs.turn.Statement.{statement}
 use Rattle.probe.proofs.turn.Tie as tie
 
+-- The start, from where the four buffers are known, the header is read and the request is known; and the request, from where its parts are known and from where they fit.
+abbrev lent : tie.After-slice-known4 → tie.Start
+lent c = c .before .before .before .before
+
+abbrev read : tie.After-read-full → tie.Start
+read c = lent (c .before .before)
+
+abbrev start : tie.After-request-in → tie.Start
+start c = read (c .before .before .before .before)
+
+abbrev opened : tie.After-struct-known3 → tie.After-request-in
+opened c = c .before .before .before
+
+abbrev request : tie.Else4 → tie.After-request-in
+request c = opened (c .before .before .before)
+
 slice-aggregate-serve : tie.Need-slice-aggregate-serve
-slice-aggregate-serve c = sym (length-take-le (c .before .before .before .before .before .before .before .request-in .result .sheet) (c .before .before .before .before .before .before .before .before .before .before .before .before .before .before .before .before .before .args .sheet .now) (omega arith))
+slice-aggregate-serve c = let q = request (c .before) in sym (length-take-le (q .request-in .result .sheet) (start q .args .sheet .now) (omega arith))
 
 slice-aggregate-serve-2 : tie.Need-slice-aggregate-serve-2
-slice-aggregate-serve-2 c = sym (length-take-le (c .before .before .before .before .before .before .before .before .request-in .result .content) (c .before .before .before .before .before .before .before .before .before .before .before .before .before .before .before .before .before .before .args .content .now) (omega arith))
+slice-aggregate-serve-2 c = let q = request (c .before .before) in sym (length-take-le (q .request-in .result .content) (start q .args .content .now) (omega arith))
 
 slice-aggregate-serve-3 : tie.Need-slice-aggregate-serve-3
-slice-aggregate-serve-3 c = sym (length-take-le (c .before .before .before .before .before .before .before .before .before .request-in .result .room) (c .before .before .before .before .before .before .before .before .before .before .before .before .before .before .before .before .before .before .before .args .table .now) (omega arith))
+slice-aggregate-serve-3 c = let q = request (c .before .before .before) in sym (length-take-le (q .request-in .result .room) (start q .args .table .now) (omega arith))
 
 pub turn-spec : {M : Type 1} → statement M
 turn-spec =

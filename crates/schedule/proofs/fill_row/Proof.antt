@@ -6,12 +6,12 @@ use borrow.Author.Needs.{needs}
 use Rattle.schedule.proofs.fill_row.Statement.{statement}
 use Rattle.schedule.proofs.fill_row.Tie as tie
 
--- The start and the gathered level, from where the row is lent to its walk; and that place, from the end.
-abbrev start : tie.After-walk-row-arg2 → tie.Start
-start c = c .before .before .before .before .before .before .before .before
-
+-- The gathered level and the start, from where the row is lent to its walk; and that place, from the end.
 abbrev gathered : tie.After-walk-row-arg2 → tie.After-gather-level
 gathered c = c .before .before .before .before
+
+abbrev start : tie.After-walk-row-arg2 → tie.Start
+start c = gathered c .before .before .before .before
 
 abbrev walked : tie.After-slice-known2 → tie.After-walk-row-arg2
 walked c = c .before .before .before

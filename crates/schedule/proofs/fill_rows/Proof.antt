@@ -26,6 +26,13 @@ Inv-loop h table₀ s n found₀ from₀ i₀ table found from i =
 abbrev μ-loop : tie.MeasureT-loop
 μ-loop h table₀ s n found₀ from₀ i₀ table found from i = n - i
 
+-- The start, from a turn; and the turn, from where the task's row is filled.
+abbrev start : tie.At-loop Inv-loop μ-loop → tie.Start Inv-loop μ-loop
+start turn = turn .before .before
+
+abbrev turn : tie.After-fill-row Inv-loop μ-loop → tie.At-loop Inv-loop μ-loop
+turn c = c .before .before .before
+
 loop-holds : tie.Need-loop-holds Inv-loop μ-loop
 unfolding sum rows greatest
 loop-holds c = (
@@ -40,34 +47,34 @@ loop-holds c = (
 )
 
 div-end : tie.Need-div-end Inv-loop μ-loop
-div-end c = c .before .before .before .pre .0 .period-least (c .before .loop .i) (omega arith)
+div-end c = start (c .before) .pre .0 .period-least (c .before .loop .i) (omega arith)
 
 cast-end : tie.Need-cast-end Inv-loop μ-loop
 cast-end c =
-    let a = c .before .before .before in
+    let a = start (c .before) in
     omega (arith, div-le-self (a .args .h) (getD (a .args .t1 .tasks) (c .before .loop .i) none .period))
 
 add-end : tie.Need-add-end Inv-loop μ-loop
 add-end c =
-    let a = c .before .before .before in
+    let a = start (c .before) in
     let l = c .before .loop in
     omega (arith, l .inv .1, jobs-next (a .pre .0) (a .args .h) (l .i) (a .pre .1 .0) (omega arith), jobs-most (a .pre .0) (a .args .h) (l .i + 1) (a .pre .1 .0) (omega arith), a .pre .0 .count-most)
 
 mul-fill-row : tie.Need-mul-fill-row Inv-loop μ-loop
 mul-fill-row c =
-    let a = c .before .before .before in
+    let a = start (c .before) in
     let l = c .before .loop in
     omega (arith, l .inv .1, jobs-most (a .pre .0) (a .args .h) (l .i) (a .pre .1 .0) (l .inv .0), a .pre .0 .count-most)
 
 part-fill-row-end : tie.Need-part-fill-row-end Inv-loop μ-loop
 part-fill-row-end c =
-    let a = c .before .before .before in
+    let a = start (c .before) in
     let l = c .before .loop in
     omega (arith, a .pre .1 .1, l .inv .1, l .inv .2 .same-length, jobs-within (a .pre .0) (a .args .h) (l .i) (a .pre .1 .0) (omega arith))
 
 fill-row-requires : tie.Need-fill-row-requires Inv-loop μ-loop
 fill-row-requires c κs =
-    let a = c .before .before .before .before in
+    let a = start (c .before .before) in
     let l = c .before .before .loop in
     let known : l .i < a .args .t1 .count = omega arith in
     let room : l .from + a .args .h / getD (a .args .t1 .tasks) (l .i) none .period ≤ length (l .table) = omega (arith, a .pre .1 .1, l .inv .1, l .inv .2 .same-length, jobs-within (a .pre .0) (a .args .h) (l .i) (a .pre .1 .0) known) in
@@ -75,16 +82,18 @@ fill-row-requires c κs =
 
 noted-requires : tie.Need-noted-requires Inv-loop μ-loop
 noted-requires c κs =
-    let a = c .before .before .before .before .before .before .before in
-    let l = c .before .before .before .before .before .loop in
-    (a .pre .0, (omega arith, (l .inv .2 .told, c .before .before .fill-row .ensures .noted)))
+    let filled = c .before .before in
+    let a = start (turn filled) in
+    let l = turn filled .loop in
+    (a .pre .0, (omega arith, (l .inv .2 .told, filled .fill-row .ensures .noted)))
 
 loop-again : tie.Need-loop-again Inv-loop μ-loop
 loop-again c =
-    let a = c .before .before .before .before .before .before .before .before in
-    let l = c .before .before .before .before .before .before .loop in
+    let filled = c .before .before .before in
+    let a = start (turn filled) in
+    let l = turn filled .loop in
     let known : l .i < a .args .t1 .count = omega arith in
-    let r = c .before .before .before .fill-row in
+    let r = filled .fill-row in
     let room : l .from + a .args .h / getD (a .args .t1 .tasks) (l .i) none .period ≤ length (l .table) = omega (arith, a .pre .1 .1, l .inv .1, l .inv .2 .same-length, jobs-within (a .pre .0) (a .args .h) (l .i) (a .pre .1 .0) known) in (
       omega arith,
       omega (arith, l .inv .1, jobs-next (a .pre .0) (a .args .h) (l .i) (a .pre .1 .0) known),
@@ -93,7 +102,7 @@ loop-again c =
 
 returns : tie.Need-returns Inv-loop μ-loop
 returns c =
-    let a = c .before .before .before in
+    let a = start (c .before) in
     let l = c .before .loop in
     let ts = tasksOf (a .args .t1) in
     let all : l .i ≡ a .args .t1 .count = omega arith in

@@ -16,20 +16,30 @@ Inv-loop i periods₀ budgets₀ s n own size₀ j₀ periods budgets size j =
 abbrev μ-loop : tie.MeasureT-loop
 μ-loop i periods₀ budgets₀ s n own size₀ j₀ periods budgets size j = n - j
 
+-- The turn, from where its task is known; and that place, from where the place of its period is.
+abbrev turn : tie.After-struct-known Inv-loop μ-loop → tie.At-loop Inv-loop μ-loop
+turn c = c .before .before .before
+
+abbrev known-task : tie.After-period-place Inv-loop μ-loop → tie.After-struct-known Inv-loop μ-loop
+known-task c = c .before .before .before
+
 loop-holds : tie.Need-loop-holds Inv-loop μ-loop
 loop-holds c = gather-start (c .pre .0) (c .args .i) (c .pre .1 .0) (c .args .periods .now) (c .args .budgets .now) (c .pre .1 .1) (c .pre .1 .2)
 
 add-budgets : tie.Need-add-budgets Inv-loop μ-loop
 add-budgets c =
-    let a = c .before .before .before .before .before .before .before .before .before .before in
-    let l = c .before .before .before .before .before .before .before .before .before .loop in
+    let place = c .before .before .before in
+    let t = turn (known-task place) in
+    let a = t .before in
+    let l = t .loop in
     let known : l .j < a .args .t1 .count = omega arith in
-    omega (arith, l .inv .budgets-most (c .before .before .before .period-place .result) (c .before .before .if2 .taken), place-allowed (a .pre .0) (l .j) known, a .pre .0 .count-most)
+    omega (arith, l .inv .budgets-most (place .period-place .result) (c .before .before .if2 .taken), place-allowed (a .pre .0) (l .j) known, a .pre .0 .count-most)
 
 loop-again : tie.Need-loop-again Inv-loop μ-loop
 loop-again c =
-    let a = c .before .before .before .before .before in
-    let l = c .before .before .before .before .loop in
+    let t = turn (c .before) in
+    let a = t .before in
+    let l = t .loop in
     let known : l .j < a .args .t1 .count = omega arith in
     ⊎-elim
     (λ w. rw (w .6, w .7, w .8) (gather-with (a .pre .0) (a .args .i) (a .pre .1 .0) (l .inv) known (w .0 .taken) (w .2 .result) (w .3 .taken) (w .2 .ensures .holds (w .3 .taken))))

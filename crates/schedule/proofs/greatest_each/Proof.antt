@@ -39,49 +39,56 @@ Inv-loop h table s n each₀ from₀ i₀ each from i = (i ≤ n) × (n ≡ s .c
 abbrev μ-loop : tie.MeasureT-loop
 μ-loop h table s n each₀ from₀ i₀ each from i = n - i
 
+-- The start, from a turn; and the turn, from where the row's greatest entry is known.
+abbrev start : tie.At-loop Inv-loop μ-loop → tie.Start Inv-loop μ-loop
+start turn = turn .before .before
+
+abbrev turn : tie.After-greatest Inv-loop μ-loop → tie.At-loop Inv-loop μ-loop
+turn c = c .before .before .before
+
 loop-holds : tie.Need-loop-holds Inv-loop μ-loop
 unfolding sum listOf
 loop-holds c = (omega arith, refl, refl, refl)
 
 element-copy-out-end : tie.Need-element-copy-out-end Inv-loop μ-loop
-element-copy-out-end c = omega (arith, c .before .loop .inv .1, c .before .before .before .pre .0 .count-most)
+element-copy-out-end c = omega (arith, c .before .loop .inv .1, start (c .before) .pre .0 .count-most)
 
 div-end : tie.Need-div-end Inv-loop μ-loop
-div-end c = c .before .before .before .pre .0 .period-least (c .before .loop .i) (omega (arith, c .before .loop .inv .1))
+div-end c = start (c .before) .pre .0 .period-least (c .before .loop .i) (omega (arith, c .before .loop .inv .1))
 
 cast-end : tie.Need-cast-end Inv-loop μ-loop
 cast-end c =
-    let a = c .before .before .before in
+    let a = start (c .before) in
     omega (arith, div-le-self (a .args .h) (getD (a .args .t1 .tasks) (c .before .loop .i) none .period))
 
 add-end : tie.Need-add-end Inv-loop μ-loop
 add-end c =
-    let a = c .before .before .before in
+    let a = start (c .before) in
     let l = c .before .loop in
     omega (arith, l .inv .2, jobs-next (a .pre .0) (a .args .h) (l .i) (a .pre .1 .0) (omega (arith, l .inv .1)), jobs-most (a .pre .0) (a .args .h) (l .i + 1) (a .pre .1 .0) (omega (arith, l .inv .1)), a .pre .0 .count-most)
 
 mul-greatest : tie.Need-mul-greatest Inv-loop μ-loop
 mul-greatest c =
-    let a = c .before .before .before in
+    let a = start (c .before) in
     let l = c .before .loop in
     omega (arith, l .inv .2, jobs-most (a .pre .0) (a .args .h) (l .i) (a .pre .1 .0) (omega (arith, l .inv .0, l .inv .1)), a .pre .0 .count-most)
 
 part-greatest-end : tie.Need-part-greatest-end Inv-loop μ-loop
 part-greatest-end c =
-    let a = c .before .before .before in
+    let a = start (c .before) in
     let l = c .before .loop in
     omega (arith, a .pre .1 .1 .enough, l .inv .2, jobs-within (a .pre .0) (a .args .h) (l .i) (a .pre .1 .0) (omega (arith, l .inv .1)))
 
 mul-each : tie.Need-mul-each Inv-loop μ-loop
-mul-each c = omega (arith, c .before .before .before .loop .inv .1, c .before .before .before .before .before .pre .0 .count-most)
+mul-each c = omega (arith, turn c .loop .inv .1, start (turn c) .pre .0 .count-most)
 
 array-write-each : tie.Need-array-write-each Inv-loop μ-loop
-array-write-each c = omega (arith, c .before .before .before .loop .inv .1, c .before .before .before .before .before .pre .0 .count-most)
+array-write-each c = omega (arith, turn c .loop .inv .1, start (turn c) .pre .0 .count-most)
 
 loop-again : tie.Need-loop-again Inv-loop μ-loop
 loop-again c =
-    let a = c .before .before .before .before .before in
-    let l = c .before .before .before .loop in
+    let a = start (turn c) in
+    let l = turn c .loop in
     let ts = tasksOf (a .args .t1) in
     let known : l .i < a .args .t1 .count = omega (arith, l .inv .1) in (
       omega arith,
@@ -92,7 +99,7 @@ loop-again c =
 
 returns : tie.Need-returns Inv-loop μ-loop
 returns c =
-    let a = c .before .before .before in
+    let a = start (c .before) in
     let l = c .before .loop in
     l .inv .3 ∙ ap (λ n. places 0 n (taskResponse (tasksOf (a .args .t1)))) {x = l .i} {y = a .args .t1 .count} (omega (arith, l .inv .1))
 

@@ -20,21 +20,27 @@ Inv-loop s multiple₀ i₀ multiple i =
 abbrev μ-loop : tie.MeasureT-loop
 μ-loop s multiple₀ i₀ multiple i = i
 
+-- The turn, from where the next multiple is told.
+abbrev turn : tie.After-lcm Inv-loop μ-loop → tie.At-loop Inv-loop μ-loop
+turn c = c .before .before
+
 loop-holds : tie.Need-loop-holds Inv-loop μ-loop
 loop-holds c = (omega arith, omega arith, multiple-start (c .pre))
 
 returns : tie.Need-returns Inv-loop μ-loop
 returns c =
-    let a = c .before .before .before .before .before in
-    let l = c .before .before .before .before .loop in
-    let over = told-over mostTicks _ (c .before .before .lcm .ensures) (c .enum-told .given .1) in
+    let next = c .before .before in
+    let a = turn next .before in
+    let l = turn next .loop in
+    let over = told-over mostTicks _ (next .lcm .ensures) (c .enum-told .given .1) in
     sym (within-over mostTicks _ (omega (arith, over, multiple-step (a .pre) (l .i) (l .multiple) (omega arith) (l .inv .0) (l .inv .2), multiple-most (a .pre) (l .i - 1))))
 
 loop-again : tie.Need-loop-again Inv-loop μ-loop
 loop-again c =
-    let a = c .before .before .before .before .before .before in
-    let l = c .before .before .before .before .before .loop in
-    let is = told-is mostTicks _ (c .before .before .before .lcm .ensures) (c .before .m .given .1) in
+    let next = c .before .before .before in
+    let a = turn next .before in
+    let l = turn next .loop in
+    let is = told-is mostTicks _ (next .lcm .ensures) (c .before .m .given .1) in
     (omega arith, omega (arith, is), is .0 ∙ multiple-step (a .pre) (l .i) (l .multiple) (omega arith) (l .inv .0) (l .inv .2))
 
 returns-2 : tie.Need-returns-2 Inv-loop μ-loop

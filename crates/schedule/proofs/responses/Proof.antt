@@ -30,8 +30,11 @@ judged c = c .before .before
 abbrev late : tie.After-enum-told2 → tie.After-fill-rows
 late c = c .before .before .before .before
 
-abbrev cleared : tie.After-found-refusal → tie.After-enum-told2
-cleared c = c .before .before .before .before .before
+abbrev cleared : tie.After-found-refusal → tie.After-clear
+cleared c = c .before .before .before
+
+abbrev found-late : tie.After-found-refusal → tie.After-enum-told2
+found-late c = cleared c .before .before
 
 abbrev full : tie.After-found → tie.After-fill-rows
 full c = c .before .before .before .before
@@ -52,7 +55,7 @@ returns c =
 returns-2 : tie.Need-returns-2
 returns-2 c =
     let z = c .before .before .before in
-    answers-small _ (start (c .before .before .before) .args .table .now) (fits z) (c .if1 .taken)
+    answers-small _ (start z .args .table .now) (fits z) (c .if1 .taken)
 
 fill-rows-requires : tie.Need-fill-rows-requires
 fill-rows-requires c κs =
@@ -65,16 +68,16 @@ clear-requires c κs =
     omega (arith, late (c .before) .fill-rows .ensures .same-length, judged (late (c .before)) .if1 .left)
 
 same-length : tie.Need-same-length
-same-length c = c .before .before .before .clear .kept .0 ∙ late (cleared c) .fill-rows .kept .1 .1 .0
+same-length c = cleared c .clear .kept .0 ∙ late (found-late c) .fill-rows .kept .1 .1 .0
 
 returns-3 : tie.Need-returns-3
 returns-3 c =
-    let a = start (sized (judged (late (cleared c)))) in
-    let z = sized (judged (late (cleared c))) in
-    let r = late (cleared c) .fill-rows in
-    let is = cleared c .enum-told2 .given .1 in
+    let z = sized (judged (late (found-late c))) in
+    let a = start z in
+    let r = late (found-late c) .fill-rows in
+    let is = found-late c .enum-told2 .given .1 in
     rw (c .before .before .before .clear .ensures, c .found-refusal .ensures ∙ ap lateOf is)
-    (answers-late (a .args .s) (a .args .table .now) (fits z) (sound z) (judged (late (cleared c)) .if1 .left)
+    (answers-late (a .args .s) (a .args .table .now) (fits z) (sound z) (judged (late (found-late c)) .if1 .left)
     (subst (Filled (tasksOf (a .args .s)) (a .args .s .count) (allJobs (tasksOf (a .args .s))) (a .args .table .now) (r .last .1 .1 .0)) is (r .ensures)))
 
 same-length-2 : tie.Need-same-length-2
@@ -82,8 +85,8 @@ same-length-2 c = full (c .before) .fill-rows .kept .1 .1 .0
 
 returns-4 : tie.Need-returns-4
 returns-4 c =
-    let a = start (sized (judged (full (c .before)))) in
     let z = sized (judged (full (c .before))) in
+    let a = start z in
     let r = full (c .before) .fill-rows in
     answers-full (a .args .s) (a .args .table .now) (fits z) (sound z) (judged (full (c .before)) .if1 .left)
     (subst (Filled (tasksOf (a .args .s)) (a .args .s .count) (allJobs (tasksOf (a .args .s))) (a .args .table .now) (r .last .1 .1 .0)) (c .before .found .given .1) (r .ensures))

@@ -18,6 +18,13 @@ Inv-loop next₀ periods budgets size at due clear₀ soon₀ p₀ next clear so
 abbrev μ-loop : tie.MeasureT-loop
 μ-loop next₀ periods budgets size at due clear₀ soon₀ p₀ next clear soon p = size - p
 
+-- The start, from a round; and the round, from where a release of a place is met.
+abbrev start : tie.At-loop Inv-loop μ-loop → tie.Start Inv-loop μ-loop
+start round = round .before .before
+
+abbrev round : tie.Then3 Inv-loop μ-loop → tie.At-loop Inv-loop μ-loop
+round c = c .before .before .before .before
+
 -- The own task, after its release if that is now.
 own-moved : (c : tie.Joined1 Inv-loop μ-loop) → let x = c .before .args in Moved (x .own .period) (x .own .budget) (x .at) (x .clear) (c .if1 .due) (c .if1 .clear)
 own-moved c =
@@ -42,20 +49,23 @@ loop-holds c = turn-start (c .before .pre .next-at) (omega (arith, own-moved c, 
 add-clear-2 : tie.Need-add-clear-2 Inv-loop μ-loop
 unfolding coming
 add-clear-2 c =
-    let a = c .before .before .before .before .before .before .before .before in
-    let l = c .before .before .before .before .before .before .loop in
-    omega (arith, placed-fits (a .pre .places) (l .inv) (omega arith) (c .before .before .if3 .taken), a .pre .fits, own-moved (c .before .before .before .before .before .before .before))
+    let r = round (c .before .before) in
+    let a = start r in
+    let l = r .loop in
+    omega (arith, placed-fits (a .pre .places) (l .inv) (omega arith) (c .before .before .if3 .taken), a .pre .fits, own-moved (r .before))
 
 add-after : tie.Need-add-after Inv-loop μ-loop
 add-after c =
-    let a = c .before .before .before .before .before .before .before .before .before in
-    let l = c .before .before .before .before .before .before .before .loop in
+    let r = round (c .before .before .before) in
+    let a = start r in
+    let l = r .loop in
     omega (arith, a .pre .places .period-most (l .p) (omega arith), a .pre .short)
 
 loop-again : tie.Need-loop-again Inv-loop μ-loop
 loop-again c =
-    let a = c .before .before .before .before .before in
-    let l = c .before .before .before .loop in
+    let r = c .before .before .before in
+    let a = start r in
+    let l = r .loop in
     let known : l .p < a .args .size = omega arith in
     let positive = a .pre .places .period-positive (l .p) known in
     let first = l .inv .place-at (l .p) (le-refl (l .p)) known in
@@ -71,7 +81,7 @@ loop-again c =
 returns : tie.Need-returns Inv-loop μ-loop
 unfolding coming
 returns c =
-    let a = c .before .before .before in
+    let a = start (c .before) in
     let l = c .before .loop in
     let own = own-moved (c .before .before) in
     let all : l .p ≡ a .args .size = omega (arith, l .inv .few) in

@@ -19,12 +19,12 @@ abbrev μ-loop : tie.MeasureT-loop
 μ-loop periods budgets size own h row₀ next₀ at₀ due₀ clear₀ rests₀ release₀ k₀ row next at due clear rests release k =
     h - at
 
--- The start and the round, from where the releases of a tick are met; and that place, from where work is left up to the next ones.
-abbrev first : tie.After-turn Inv-loop μ-loop → tie.Start Inv-loop μ-loop
-first c = c .before .before .before .before .before
-
+-- The round and the start, from where the releases of a tick are met; and that place, from where work is left up to the next ones.
 abbrev round : tie.After-turn Inv-loop μ-loop → tie.At-loop Inv-loop μ-loop
 round c = c .before .before .before
+
+abbrev first : tie.After-turn Inv-loop μ-loop → tie.Start Inv-loop μ-loop
+first c = round c .before .before
 
 abbrev busy : tie.Then1 Inv-loop μ-loop → tie.After-turn Inv-loop μ-loop
 busy c = c .before .before

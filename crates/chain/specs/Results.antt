@@ -16,7 +16,8 @@ use Rattle.theory.specs.Model.Readings.{Arrives}
 use Rattle.theory.specs.Analysis.ChainLaws.{delay-turns}
 use Rattle.theory.specs.Analysis.Paths.{path-within, path-exists, path-exact}
 use Rattle.theory.specs.Model.Flag.{FlagWithin}
-use Rattle.theory.specs.Results.Flags.{flag-later, no-flag-exceeds}
+use Rattle.theory.specs.Analysis.FlagLaws.{flag-later}
+use Rattle.theory.specs.Results.Flags.{no-flag-exceeds}
 use Rattle.theory.specs.Results.Demand3 as demand
 use Rattle.theory.specs.Results.Demand3.{GreatestDelay}
 use Rattle.sheet.specs.declared.Sheet.{Sheet}

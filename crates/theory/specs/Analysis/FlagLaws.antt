@@ -13,7 +13,7 @@ use Rattle.arith.specs.RangeLaws.{least-passes, least-first}
 use Rattle.theory.specs.declared.Task.{Task}
 use Rattle.theory.specs.Model.Schedule.{period, release, rank, Proper, Demands, Within, need, Slot, idle, busy, Run, done, Pending, Schedule, Starts}
 use Rattle.theory.specs.Model.Responses.{Accepted}
-use Rattle.theory.specs.Model.Flag.{Takes, flagWait}
+use Rattle.theory.specs.Model.Flag.{Takes, flagWait, FlagWithin}
 use Rattle.theory.specs.Analysis.Work.{done-grows, need-step, due-covers, due-most}
 use Rattle.theory.specs.Analysis.Backlog.{done-most}
 use Rattle.theory.specs.Analysis.Finish.{done-starts, start-later, start-unique, start-released}
@@ -24,6 +24,21 @@ use Rattle.theory.specs.Analysis.NeverLater.{job-starts, job-finishes, f
 pub takes-unique : {d : Demands} {run : Run} {p e j k : ℕ} → Takes d run p e j → Takes d run p e k → j ≡ k
 takes-unique {j = j} {k = k} x y =
     le-antisymm (x .first k (y .start) (y .starts) (y .in-time)) (y .first j (x .start) (x .starts) (x .in-time))
+
+-- A flag that is stamped within some ticks is stamped within more.
+pub flag-later : {d : Demands} {run : Run} {p : ℕ} {rest : List ℕ} {e ticks more : ℕ} → ticks ≤ more
+    → FlagWithin d run p rest e ticks → FlagWithin d run p rest e more
+flag-later l x = record {
+  job = x .job;
+  takes = x .takes;
+  stamp = x .stamp;
+  path = x .path;
+  in-time = omega (arith, x .in-time);
+  arrives = x .arrives;
+  read = x .read;
+  reads = x .reads;
+  since = x .since;
+}
 
 module _ {ts : List Task} (good : Proper ts) {d : Demands} {run : Run} (s : Schedule ts d run) (p : ℕ) (known : p < length ts) where
   -- A job that starts before e was released before e,

@@ -14,7 +14,7 @@ use Rattle.theory.specs.Model.Flag.{Takes, fromFlag, flagWorst, flagBoun
 use Rattle.theory.specs.Analysis.Finish.{start-later}
 use Rattle.theory.specs.Analysis.NeverLater.{job-starts}
 use Rattle.theory.specs.Analysis.ChainLaws.{chain-head}
-use Rattle.theory.specs.Analysis.FlagLaws.{wait-most, flag-taken}
+use Rattle.theory.specs.Analysis.FlagLaws.{flag-later, wait-most, flag-taken}
 use Rattle.theory.specs.Results.Demand3.{no-schedule-exceeds, path-arrives, sampling-within-bound}
 use Rattle.theory.specs.Results.Examples.{trio, radio, trio-chain, radio-chain}
 
@@ -55,21 +55,7 @@ no-flag-exceeds ts accepted p rest chain d within run schedule e = record {
     source : (t : ℕ) × Starts d run p (arrives .source) t
     source = job-starts accepted schedule within p (arrives .source) known
 
--- 2. No flag exceeds the quick bound from a flag either: more time is within more.
-pub flag-later : {d : Demands} {run : Run} {p : ℕ} {rest : List ℕ} {e ticks more : ℕ} → ticks ≤ more
-    → FlagWithin d run p rest e ticks → FlagWithin d run p rest e more
-flag-later l x = record {
-  job = x .job;
-  takes = x .takes;
-  stamp = x .stamp;
-  path = x .path;
-  in-time = omega (arith, x .in-time);
-  arrives = x .arrives;
-  read = x .read;
-  reads = x .reads;
-  since = x .since;
-}
-
+-- 2. The same with the quick bound.
 pub no-flag-exceeds-bound :
     (ts : List Task) (accepted : Accepted ts) (p : ℕ) (rest : List ℕ) (chain : Chain ts p rest)
     (d : Demands) (within : Within ts d) (run : Run) (schedule : Schedule ts d run) (e : ℕ)

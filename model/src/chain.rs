@@ -6,6 +6,9 @@ use crate::schedule::{fill, sizes, Worked};
 use crate::sheet::Memory;
 use crate::Refusal;
 
+/// "The call without a limit uses 1,000 ticks", and so does the report.
+pub const DEFAULT_LIMIT: u32 = 1_000;
+
 /// The least multiple of `step` that is at least `x`.
 fn multiple_from(step: u32, x: u32) -> u32 {
     (0..).map(|k| k * step).find(|&m| m >= x).unwrap()
@@ -78,7 +81,7 @@ impl Worked {
     }
 
     /// The longest that a flag waits until the first task is released, found by raising one at every tick of a period.
-    pub fn wait(&self, chain: &[u8]) -> u32 {
+    fn wait(&self, chain: &[u8]) -> u32 {
         let period = self.tasks[chain[0] as usize].period;
         (0..period).map(|raised| multiple_from(period, raised) - raised).max().unwrap()
     }
@@ -120,9 +123,6 @@ pub fn margin(s: &Memory, limit: u32, table: &mut [u32]) -> Result<i64, Refusal>
     }
     Ok(fill(z, table)?.figures(chain_of(s), limit).margin)
 }
-
-/// "the margin under the default limit"
-pub const DEFAULT_LIMIT: u32 = 1_000;
 
 pub fn figures(s: &Memory, table: &mut [u32]) -> Result<(Worked, Figures), Refusal> {
     let worked = fill(sizes(s)?, table)?;

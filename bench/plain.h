@@ -1,8 +1,8 @@
 // The report as one would write it by hand in C, to compare with. A program that includes this has a way to fill the table.
 //
-//     PROGRAM report|table|worst|read < SHEET
+//     PROGRAM report|table|sampling|read < SHEET
 //
-// `report` prints what the proved report prints. The others print one number: the idle ticks, the worst figure, the task count.
+// `report` prints what the proved report prints. The others print one number: the idle ticks, the sampling figure, the task count.
 #include <stdbool.h>
 #include <stdint.h>
 #include <stdio.h>
@@ -154,7 +154,7 @@ struct figure {
     uint32_t ticks, release;
 };
 
-static struct figure worst(const struct sheet *s, const struct plan *plan) {
+static struct figure sampling(const struct sheet *s, const struct plan *plan) {
     uint32_t p = s->chain[0];
     struct figure most = {0, 0};
     for (uint32_t job = 0; job < plan->counts[p]; job++) {
@@ -167,7 +167,7 @@ static struct figure worst(const struct sheet *s, const struct plan *plan) {
     return most;
 }
 
-static uint32_t bound(const struct sheet *s, const uint32_t *greatest) {
+static uint32_t sampling_bound(const struct sheet *s, const uint32_t *greatest) {
     uint32_t p = s->chain[0], ticks = 0;
     for (uint32_t i = 1; i < s->length; i++) {
         uint32_t c = s->chain[i];
@@ -193,9 +193,10 @@ static void print_report(const struct sheet *s, const struct plan *plan) {
     printf("chain");
     for (uint32_t i = 0; i < s->length; i++)
         printf(" %u", s->chain[i]);
-    struct figure figure = worst(s, plan);
-    printf("\nworst %u from %u\n", figure.ticks, figure.release);
-    printf("bound %u\nmargin %d\n", bound(s, greatest), 1000 - (int32_t)figure.ticks);
+    struct figure figure = sampling(s, plan);
+    uint32_t wait = s->tasks[s->chain[0]].period - 1, worst = figure.ticks + wait;
+    printf("\nworst %u from %u\n", worst, figure.release);
+    printf("bound %u\nmargin %d\n", sampling_bound(s, greatest) + wait, 1000 - (int32_t)worst);
 }
 
 int main(int count, char **words) {
@@ -212,8 +213,8 @@ int main(int count, char **words) {
     fill_table(&s, &plan, table);
     if (strcmp(what, "table") == 0)
         printf("%u\n", plan.idle);
-    else if (strcmp(what, "worst") == 0)
-        printf("%u\n", worst(&s, &plan).ticks);
+    else if (strcmp(what, "sampling") == 0)
+        printf("%u\n", sampling(&s, &plan).ticks);
     else
         print_report(&s, &plan);
     return 0;

@@ -1,10 +1,21 @@
 /*
- * Bellkettle for programs in C: how long a path along the chain takes, from the release of its sampling job to the stamp that carries the
- * reading of that job or a newer one.
+ * Bellkettle for programs in C: how long it takes along the chain until the stamp, from the change flag that asks for a reading or from
+ * the release of the job that samples it.
  *
  * Link libbellkettle.a (x86-64 Linux), which `rt staticlib bellkettle` writes. Every function below is proved to answer what the
- * firm's page "From sheet to worst delay: the rules" (document 01) says, for every input, and to end. The library allocates nothing,
- * has no variables of its own and takes only memcpy and memset from C's, so threads may call it at once with memory of their own.
+ * firm's page "From sheet to worst delay: the rules" (document 01) and its requests (document 02) say, for every input, and to end. The
+ * library allocates nothing, has no variables of its own and takes only memcpy and memset from C's, so threads may call it at once with
+ * memory of their own.
+ *
+ * From what moment a number counts
+ *
+ * A path begins with a job of the chain's first task, goes on from each job to the first job of the next task that starts at or after
+ * its write, and ends with the write of the last, the stamp. Every number of ticks that is given counts to that end,
+ *  - from the release of the path's first job: the delay at a release, the sampling figure, which is the greatest delay, and the sampling
+ *    bound, which is document 01's quick bound and never below it;
+ *  - from the tick at which a change flag is raised: the worst, its bound and every margin. A flag stays up until it is taken, by the first
+ *    job of the first task that starts at or after that tick. That job is released at most T - 1 ticks after the flag, T being the period
+ *    of the chain's first task: worst and bound are the sampling figure and the sampling bound with T - 1 added.
  *
  * What a call is lent
  *
@@ -69,22 +80,22 @@ uint8_t bellkettle_responses(const uint8_t *sheet, size_t sheet_length,
                              uint32_t *table, size_t table_length,
                              int64_t *values, size_t values_length);
 
-/* values: the delay of the chain at a release of its first task. Refuses 1 to 9, 10, 11, 12, 14, 15. */
+/* values: the delay of the chain at a release of its first task, from that release. Refuses 1 to 9, 10, 11, 12, 14, 15. */
 uint8_t bellkettle_delay(const uint8_t *sheet, size_t sheet_length, uint32_t release,
                          uint32_t *table, size_t table_length,
                          int64_t *values, size_t values_length);
 
-/* values: the worst figure, and the smallest release that gives it. Refuses 1 to 9, 10, 11, 14, 15. */
-uint8_t bellkettle_worst(const uint8_t *sheet, size_t sheet_length,
-                         uint32_t *table, size_t table_length,
-                         int64_t *values, size_t values_length);
+/* values: the sampling figure, and the smallest release that gives it. Refuses 1 to 9, 10, 11, 14, 15. */
+uint8_t bellkettle_sampling(const uint8_t *sheet, size_t sheet_length,
+                            uint32_t *table, size_t table_length,
+                            int64_t *values, size_t values_length);
 
-/* values: the quick bound. Refuses 1 to 9, 10, 11, 14, 15. */
+/* values: the sampling bound. Refuses 1 to 9, 10, 11, 14, 15. */
 uint8_t bellkettle_bound(const uint8_t *sheet, size_t sheet_length,
                          uint32_t *table, size_t table_length,
                          int64_t *values, size_t values_length);
 
-/* values: the limit less the worst figure, below zero where the limit is not kept. Refuses 1 to 9, 10, 11, 13, 14, 15. */
+/* values: the limit less the worst; where it is not below zero every flag is stamped within the limit. Refuses 1 to 9, 10, 11, 13, 14, 15. */
 uint8_t bellkettle_margin(const uint8_t *sheet, size_t sheet_length, uint32_t limit,
                           uint32_t *table, size_t table_length,
                           int64_t *values, size_t values_length);
@@ -95,9 +106,9 @@ uint8_t bellkettle_default_margin(const uint8_t *sheet, size_t sheet_length,
                                   int64_t *values, size_t values_length);
 
 /*
- * What a report says, from one filling of the table. values: H, J, the idle ticks before H, the worst figure, the smallest release
- * that gives it, the quick bound, and the margin under a limit of 1,000 ticks. The response of a task is the greatest of its row.
- * Refuses 1 to 9, 10, 11, 14, 15.
+ * What a report says, from one filling of the table. values, nine: H, J, the idle ticks before H; the sampling figure, the smallest
+ * release that gives it, the sampling bound; the worst, its bound, and the margin under a limit of 1,000 ticks. The response of a task
+ * is the greatest of its row. Refuses 1 to 9, 10, 11, 14, 15.
  */
 uint8_t bellkettle_figures(const uint8_t *sheet, size_t sheet_length,
                            uint32_t *table, size_t table_length,

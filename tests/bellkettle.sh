@@ -116,6 +116,11 @@ ends 1 && prints samples/refused-1-empty.report && says '^bellkettle: standard i
 try 'bytes without an end' ./bellkettle report /dev/zero
 ends 1 && prints samples/refused-2-count.report
 
+# README's report, line by line.
+while read -r line; do
+    grep -qxF "    $line" README.md || wrong "README.md expected to print: $line"
+done <samples/radio.report
+
 # README's sheet that is mended: its bytes before and after, what is printed of it and what is said.
 try 'the sheet that README mends' ./bellkettle report samples/refused-4-mistyped.sheet
 for sheet in refused-4-mistyped radio; do
@@ -271,7 +276,7 @@ plant
 try 'a terminal' script -qec "'$tree/bellkettle' report samples/radio.sheet" /dev/null </dev/null
 ends 0 && started 1
 tr '\r' '\n' <"$room/out" >"$room/lines"
-grep -q '^bellkettle: [0-9] of 2 crates proved, [0-9]* s' "$room/lines" && ! grep -q 'is proved, ' "$room/lines" && grep -q '^margin 980$' "$room/lines" || wrong 'a line that moves expected, and the report'
+grep -q '^bellkettle: [0-9] of 2 crates proved, [0-9]* s' "$room/lines" && ! grep -q 'is proved, ' "$room/lines" && grep -qxF "$(tail -n 1 samples/radio.report)" "$room/lines" || wrong 'a line that moves expected, and the report'
 try 'a sheet typed at a terminal' sh -c 'printf "\004" | script -qec "./bellkettle report" /dev/null'
 ends 1 && grep -q '^bellkettle: standard input: a sheet is awaited here' "$room/out" && grep -q '^refused 1' "$room/out" || wrong 'to be told that a sheet is awaited'
 

@@ -1,7 +1,7 @@
 /*
  * A program in C over the library: every function of include/bellkettle.h on the sheets of document 01, on each refusal that can
  * come of it, at every place where a field can be bad, and on lent memory that is just large enough, too short by one, or empty.
- * Figures are document 01's where it has the sheet.
+ * Figures are documents 01's and 02's where they have the sheet.
  */
 #include "bellkettle.h"
 
@@ -14,7 +14,7 @@
 #define MARK_BYTE 0x5a
 
 /* The most values that a call gives. */
-#define VALUES 7
+#define VALUES 9
 
 /* Where the fields of a sheet with n tasks begin, and that a refusal comes with no bit. */
 #define COUNT_BIT 0
@@ -101,13 +101,13 @@ static void expect_marked(const char *sheet, size_t value, size_t entry) {
 }
 
 /* The seven calls that fill a table, in one form. */
-enum call { RESPONSES, DELAY, WORST, BOUND, MARGIN, DEFAULT_MARGIN, FIGURES };
+enum call { RESPONSES, DELAY, SAMPLING, BOUND, MARGIN, DEFAULT_MARGIN, FIGURES };
 
 static uint8_t ask(enum call call, const uint8_t *sheet, size_t length, uint32_t number, size_t room, size_t places) {
     switch (call) {
     case RESPONSES: return bellkettle_responses(sheet, length, table, room, values, places);
     case DELAY: return bellkettle_delay(sheet, length, number, table, room, values, places);
-    case WORST: return bellkettle_worst(sheet, length, table, room, values, places);
+    case SAMPLING: return bellkettle_sampling(sheet, length, table, room, values, places);
     case BOUND: return bellkettle_bound(sheet, length, table, room, values, places);
     case MARGIN: return bellkettle_margin(sheet, length, number, table, room, values, places);
     case DEFAULT_MARGIN: return bellkettle_default_margin(sheet, length, table, room, values, places);
@@ -234,6 +234,8 @@ static const struct fields radio = {"Radio", 3, {20, 6, 12}, {5, 1, 3}, {1, 3, 2
 static const struct fields radio_short = {"Radio, chain 0 1", 3, {20, 6, 12}, {5, 1, 3}, {1, 3, 2}, 2, {0, 1}};
 static const struct fields quartet = {"Quartet", 4, {6, 6, 3, 6}, {1, 1, 1, 1}, {4, 3, 2, 1}, 2, {2, 3}};
 static const struct fields lone = {"Lone", 1, {5}, {5}, {1}, 1, {0}};
+static const struct fields every_tick = {"a first task of period 1", 1, {1}, {1}, {1}, 1, {0}};
+static const struct fields longest_period = {"a first task of period 100,000", 1, {100000}, {1}, {1}, 1, {0}};
 static const struct fields slow = {"a margin below zero", 1, {5000}, {2000}, {1}, 1, {0}};
 static const struct fields budget_over = {"a budget over its period", 1, {5}, {6}, {1}, 1, {0}};
 static const struct fields late = {"a late task", 2, {2, 3}, {1, 2}, {2, 1}, 1, {0}};
@@ -246,9 +248,9 @@ static void document_one(void) {
     const uint32_t rows[] = {4, 1, 1, 1, 1, 2, 2};
     expect_sheet(&trio, 7);
     expect_given(&trio, RESPONSES, 0, 7, rows, 3, (int64_t[]){8, 7, 1});
-    expect_given(&trio, WORST, 0, 7, rows, 2, (int64_t[]){6, 0});
+    expect_given(&trio, SAMPLING, 0, 7, rows, 2, (int64_t[]){6, 0});
     expect_given(&trio, BOUND, 0, 7, rows, 1, (int64_t[]){8});
-    expect_given(&trio, FIGURES, 0, 7, rows, 7, (int64_t[]){8, 7, 1, 6, 0, 8, 994});
+    expect_given(&trio, FIGURES, 0, 7, rows, 9, (int64_t[]){8, 7, 1, 6, 0, 8, 13, 15, 987});
 }
 
 static void document_two_and_three(void) {
@@ -258,35 +260,36 @@ static void document_two_and_three(void) {
     expect_given(&radio, DELAY, 0, 18, rows, 1, (int64_t[]){16});
     expect_given(&radio, DELAY, 20, 18, rows, 1, (int64_t[]){20});
     expect_given(&radio, DELAY, 40, 18, rows, 1, (int64_t[]){12});
-    expect_given(&radio, WORST, 0, 18, rows, 2, (int64_t[]){20, 20});
+    expect_given(&radio, SAMPLING, 0, 18, rows, 2, (int64_t[]){20, 20});
     expect_given(&radio, BOUND, 0, 18, rows, 1, (int64_t[]){24});
-    expect_given(&radio, DEFAULT_MARGIN, 0, 18, rows, 1, (int64_t[]){980});
-    expect_given(&radio, MARGIN, 1000, 18, rows, 1, (int64_t[]){980});
-    expect_given(&radio, MARGIN, 0, 18, rows, 1, (int64_t[]){-20});
-    expect_given(&radio, MARGIN, 4000000, 18, rows, 1, (int64_t[]){3999980});
-    expect_given(&radio, FIGURES, 0, 18, rows, 7, (int64_t[]){60, 18, 20, 20, 20, 24, 980});
+    expect_given(&radio, DEFAULT_MARGIN, 0, 18, rows, 1, (int64_t[]){961});
+    expect_given(&radio, MARGIN, 1000, 18, rows, 1, (int64_t[]){961});
+    expect_given(&radio, MARGIN, 39, 18, rows, 1, (int64_t[]){0});
+    expect_given(&radio, MARGIN, 0, 18, rows, 1, (int64_t[]){-39});
+    expect_given(&radio, MARGIN, 4000000, 18, rows, 1, (int64_t[]){3999961});
+    expect_given(&radio, FIGURES, 0, 18, rows, 9, (int64_t[]){60, 18, 20, 20, 20, 24, 39, 43, 961});
 
     expect_sheet(&radio_short, 18);
     expect_given(&radio_short, DELAY, 0, 18, rows, 1, (int64_t[]){13});
     expect_given(&radio_short, DELAY, 20, 18, rows, 1, (int64_t[]){11});
     expect_given(&radio_short, DELAY, 40, 18, rows, 1, (int64_t[]){9});
-    expect_given(&radio_short, WORST, 0, 18, rows, 2, (int64_t[]){13, 0});
+    expect_given(&radio_short, SAMPLING, 0, 18, rows, 2, (int64_t[]){13, 0});
     expect_given(&radio_short, BOUND, 0, 18, rows, 1, (int64_t[]){15});
-    expect_given(&radio_short, FIGURES, 0, 18, rows, 7, (int64_t[]){60, 18, 20, 13, 0, 15, 987});
+    expect_given(&radio_short, FIGURES, 0, 18, rows, 9, (int64_t[]){60, 18, 20, 13, 0, 15, 32, 34, 968});
 }
 
 static void document_four_to_six(void) {
     expect_sheet(&quartet, 5);
-    expect_given(&quartet, WORST, 0, 5, NULL, 2, (int64_t[]){8, 3});
+    expect_given(&quartet, SAMPLING, 0, 5, NULL, 2, (int64_t[]){8, 3});
     expect_given(&quartet, BOUND, 0, 5, NULL, 1, (int64_t[]){8});
-    expect_given(&quartet, FIGURES, 0, 5, NULL, 7, (int64_t[]){6, 5, 1, 8, 3, 8, 992});
+    expect_given(&quartet, FIGURES, 0, 5, NULL, 9, (int64_t[]){6, 5, 1, 8, 3, 8, 10, 10, 990});
 
     const uint8_t printed[] = {0x08, 0x00, 0x14, 0x00, 0x0A, 0x02, 0x10};
     expect_sheet(&lone, 1);
     expect_read("Lone as printed", printed, sizeof printed, 0, NO_BIT, &lone);
-    expect_given(&lone, WORST, 0, 1, (uint32_t[]){5}, 2, (int64_t[]){5, 0});
+    expect_given(&lone, SAMPLING, 0, 1, (uint32_t[]){5}, 2, (int64_t[]){5, 0});
     expect_given(&lone, BOUND, 0, 1, (uint32_t[]){5}, 1, (int64_t[]){5});
-    expect_given(&lone, FIGURES, 0, 1, (uint32_t[]){5}, 7, (int64_t[]){5, 1, 0, 5, 0, 5, 995});
+    expect_given(&lone, FIGURES, 0, 1, (uint32_t[]){5}, 9, (int64_t[]){5, 1, 0, 5, 0, 5, 9, 9, 991});
 
     expect_bad_field(&budget_over, 4, 22);
 }
@@ -456,11 +459,23 @@ static void refusals_of_numbers(void) {
     expect_refused("a limit at the last number", MARGIN, sheet.at, size, UINT32_MAX, 18, 13, NO_BIT);
 }
 
-/* A task alone, whose response is its budget, and that over 1,000. */
+/* A task alone, whose response is its budget. To that the flag's wait for a release is added, T - 1. */
+static void first_periods(void) {
+    expect_sheet(&every_tick, 1);
+    expect_given(&every_tick, FIGURES, 0, 1, (uint32_t[]){1}, 9, (int64_t[]){1, 1, 0, 1, 0, 1, 1, 1, 999});
+    expect_given(&every_tick, MARGIN, 1, 1, (uint32_t[]){1}, 1, (int64_t[]){0});
+    expect_sheet(&longest_period, 1);
+    expect_given(&longest_period, SAMPLING, 0, 1, (uint32_t[]){1}, 2, (int64_t[]){1, 0});
+    expect_given(&longest_period, BOUND, 0, 1, (uint32_t[]){1}, 1, (int64_t[]){1});
+    expect_given(&longest_period, FIGURES, 0, 1, (uint32_t[]){1}, 9, (int64_t[]){100000, 1, 99999, 1, 0, 1, 100000, 100000, -99000});
+    expect_given(&longest_period, MARGIN, 100000, 1, (uint32_t[]){1}, 1, (int64_t[]){0});
+}
+
+/* The same, over 1,000. */
 static void margin_below_zero(void) {
     expect_sheet(&slow, 1);
-    expect_given(&slow, DEFAULT_MARGIN, 0, 1, (uint32_t[]){2000}, 1, (int64_t[]){-1000});
-    expect_given(&slow, FIGURES, 0, 1, (uint32_t[]){2000}, 7, (int64_t[]){5000, 1, 3000, 2000, 0, 2000, -1000});
+    expect_given(&slow, DEFAULT_MARGIN, 0, 1, (uint32_t[]){2000}, 1, (int64_t[]){-5999});
+    expect_given(&slow, FIGURES, 0, 1, (uint32_t[]){2000}, 9, (int64_t[]){5000, 1, 3000, 2000, 0, 2000, 6999, 6999, -5999});
 }
 
 /* Lent memory that is short or none gets as much as it has places for. */
@@ -468,15 +483,15 @@ static void short_memory(void) {
     struct bytes sheet = pack(&radio);
     size_t size = size_of(&sheet);
     mark();
-    expect("one value of two", "the number returned", ask(WORST, sheet.at, size, 0, 18, 1), 0);
+    expect("one value of two", "the number returned", ask(SAMPLING, sheet.at, size, 0, 18, 1), 0);
     expect("one value of two", "the value", values[0], 20);
     expect_marked("one value of two", 1, 18);
     for (size_t places = 0; places < VALUES; places++) {
-        expect_given(&radio, FIGURES, 0, 18, NULL, places, (int64_t[]){60, 18, 20, 20, 20, 24});
+        expect_given(&radio, FIGURES, 0, 18, NULL, places, (int64_t[]){60, 18, 20, 20, 20, 24, 39, 43});
     }
-    expect("nothing lent", "the refusal", bellkettle_worst(sheet.at, size, NULL, 0, NULL, 0), 14);
-    expect("no place for the bit", "the refusal", bellkettle_worst(sheet.at, size - 1, table, 18, NULL, 0), 1);
-    expect("no values lent", "the number returned", bellkettle_worst(sheet.at, size, table, 18, NULL, 0), 0);
+    expect("nothing lent", "the refusal", bellkettle_sampling(sheet.at, size, NULL, 0, NULL, 0), 14);
+    expect("no place for the bit", "the refusal", bellkettle_sampling(sheet.at, size - 1, table, 18, NULL, 0), 1);
+    expect("no values lent", "the number returned", bellkettle_sampling(sheet.at, size, table, 18, NULL, 0), 0);
 
     uint32_t periods[] = {MARK, MARK, MARK};
     expect("two periods of three", "reading", bellkettle_read(sheet.at, size, periods, 2, NULL, 0, NULL, 0, NULL, 0, NULL, 0), 0);
@@ -496,6 +511,7 @@ int main(void) {
     refusals_at_every_place();
     refusals_of_lengths();
     refusals_of_numbers();
+    first_periods();
     margin_below_zero();
     short_memory();
     printf("host: %u checks\n", checks);

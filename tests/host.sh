@@ -1,5 +1,6 @@
 #!/bin/sh
-# A program in C, linked with the library that the kit writes, calls each of its functions and checks document 01's sheets.
+# A program in C, linked with the library that the kit writes, calls each of its functions and checks document 01's sheets, with what
+# documents 01 and 02 say of them.
 set -eu
 cd "$(dirname "$0")/.."
 room=$(mktemp -d)

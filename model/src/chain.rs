@@ -1,8 +1,13 @@
-//! The chain: delay, worst figure, quick bound and margin, by the words of document 01.
+//! The chain: delay, sampling figure, its quick bound, worst, bound and margin, by the words of documents 01 and 02. Document 01 counts
+//! from the release of the first task's job and calls its figure the worst; document 02 counts from the flag and calls that figure the
+//! sampling figure.
 
 use crate::schedule::{fill, sizes, Worked};
 use crate::sheet::Memory;
 use crate::Refusal;
+
+/// "The call without a limit uses 1,000 ticks", and so does the report.
+pub const DEFAULT_LIMIT: u32 = 1_000;
 
 /// The least multiple of `step` that is at least `x`.
 fn multiple_from(step: u32, x: u32) -> u32 {
@@ -11,6 +16,16 @@ fn multiple_from(step: u32, x: u32) -> u32 {
 
 fn common_divisor(a: u32, b: u32) -> u32 {
     (1..=a.min(b)).rev().find(|d| a % d == 0 && b % d == 0).unwrap()
+}
+
+/// What is said of a chain: from the release of a job the sampling figure and its bound, from a flag the worst, its bound and the margin.
+pub struct Figures {
+    pub sampling: u32,
+    pub release: u32,
+    pub sampling_bound: u32,
+    pub worst: u32,
+    pub bound: u32,
+    pub margin: i64,
 }
 
 impl Worked {
@@ -42,8 +57,8 @@ impl Worked {
         }
     }
 
-    /// The figure and the smallest release that gives it.
-    pub fn worst(&self, chain: &[u8]) -> (u32, u32) {
+    /// The sampling figure, which is the greatest delay, and the smallest release that gives it.
+    pub fn sampling(&self, chain: &[u8]) -> (u32, u32) {
         let period = self.tasks[chain[0] as usize].period;
         let releases = (0..self.hyperperiod).step_by(period as usize);
         let delays: Vec<(u32, u32)> = releases.map(|r| (self.delay(chain, r), r)).collect();
@@ -51,7 +66,8 @@ impl Worked {
         *delays.iter().find(|d| d.0 == greatest).unwrap()
     }
 
-    pub fn bound(&self, chain: &[u8]) -> u32 {
+    /// The quick bound of the sampling figure.
+    pub fn sampling_bound(&self, chain: &[u8]) -> u32 {
         let mut sum = self.greatest_response(chain[chain.len() - 1]);
         for pair in chain.windows(2) {
             let (p, c) = (self.tasks[pair[0] as usize], self.tasks[pair[1] as usize]);
@@ -62,6 +78,21 @@ impl Worked {
             }
         }
         sum
+    }
+
+    /// The longest that a flag waits until the first task is released, found by raising one at every tick of a period.
+    fn wait(&self, chain: &[u8]) -> u32 {
+        let period = self.tasks[chain[0] as usize].period;
+        (0..period).map(|raised| multiple_from(period, raised) - raised).max().unwrap()
+    }
+
+    /// "The report's worst and bound now add T − 1 of the first task; every margin now uses that worst."
+    pub fn figures(&self, chain: &[u8], limit: u32) -> Figures {
+        let (sampling, release) = self.sampling(chain);
+        let sampling_bound = self.sampling_bound(chain);
+        let wait = self.wait(chain);
+        let (worst, bound) = (sampling + wait, sampling_bound + wait);
+        Figures { sampling, release, sampling_bound, worst, bound, margin: i64::from(limit) - i64::from(worst) }
     }
 }
 
@@ -77,12 +108,12 @@ pub fn delay(s: &Memory, release: u32, table: &mut [u32]) -> Result<u32, Refusal
     Ok(fill(z, table)?.delay(chain_of(s), release))
 }
 
-pub fn worst(s: &Memory, table: &mut [u32]) -> Result<(u32, u32), Refusal> {
-    Ok(fill(sizes(s)?, table)?.worst(chain_of(s)))
+pub fn sampling(s: &Memory, table: &mut [u32]) -> Result<(u32, u32), Refusal> {
+    Ok(fill(sizes(s)?, table)?.sampling(chain_of(s)))
 }
 
-pub fn bound(s: &Memory, table: &mut [u32]) -> Result<u32, Refusal> {
-    Ok(fill(sizes(s)?, table)?.bound(chain_of(s)))
+pub fn sampling_bound(s: &Memory, table: &mut [u32]) -> Result<u32, Refusal> {
+    Ok(fill(sizes(s)?, table)?.sampling_bound(chain_of(s)))
 }
 
 pub fn margin(s: &Memory, limit: u32, table: &mut [u32]) -> Result<i64, Refusal> {
@@ -90,5 +121,11 @@ pub fn margin(s: &Memory, limit: u32, table: &mut [u32]) -> Result<i64, Refusal>
     if limit > 4_000_000 {
         return Err(13.into());
     }
-    Ok(i64::from(limit) - i64::from(fill(z, table)?.worst(chain_of(s)).0))
+    Ok(fill(z, table)?.figures(chain_of(s), limit).margin)
+}
+
+pub fn figures(s: &Memory, table: &mut [u32]) -> Result<(Worked, Figures), Refusal> {
+    let worked = fill(sizes(s)?, table)?;
+    let figures = worked.figures(chain_of(s), DEFAULT_LIMIT);
+    Ok((worked, figures))
 }

@@ -246,10 +246,10 @@ fn limit(r: &mut Random) -> u32 {
     }
 }
 
-/// A limit that the worst figure is, or is off by one.
+/// A limit that the worst is, or is off by one.
 fn tight_limit(r: &mut Random, s: &Memory) -> u32 {
-    match chain::worst(s, &mut [0; 8_192]) {
-        Ok((figure, _)) => figure + r.pick(&[0, 1, 2]) - 1,
+    match chain::figures(s, &mut [0; 8_192]) {
+        Ok((_, figures)) => figures.worst + r.pick(&[0, 1, 2]) - 1,
         Err(_) => limit(r),
     }
 }

@@ -24,7 +24,7 @@ pub enum Call {
     Responses,
     TaskResponses,
     Delay,
-    Worst,
+    Sampling,
     Bound,
     Margin,
     DefaultMargin,
@@ -34,7 +34,7 @@ pub enum Call {
 use Call::*;
 
 pub const CALLS: [Call; 19] = [
-    Gcd, Lcm, Up, Magnitude, Number, Put, Read, Greatest, Judge, Write, Sizes, Responses, TaskResponses, Delay, Worst, Bound, Margin,
+    Gcd, Lcm, Up, Magnitude, Number, Put, Read, Greatest, Judge, Write, Sizes, Responses, TaskResponses, Delay, Sampling, Bound, Margin,
     DefaultMargin, Figures,
 ];
 
@@ -46,7 +46,7 @@ impl Call {
             Read | Judge => (1..=9).collect(),
             Write => (1..=9).chain([14]).collect(),
             Sizes => (1..=11).collect(),
-            Responses | TaskResponses | Worst | Bound | DefaultMargin | Figures => (1..=11).chain([14, 15]).collect(),
+            Responses | TaskResponses | Sampling | Bound | DefaultMargin | Figures => (1..=11).chain([14, 15]).collect(),
             Delay => (1..=12).chain([14, 15]).collect(),
             Margin => (1..=11).chain([13, 14, 15]).collect(),
         }
@@ -211,14 +211,13 @@ fn of_sheet(call: Call, number: u32, s: &Memory, buffer: &mut [u8], table: &mut 
         Responses => schedule::responses(s, table).map(|w| totals(&w)),
         TaskResponses => schedule::responses(s, table).map(|w| [totals(&w), greatest(&w)].concat()),
         Delay => chain::delay(s, number, table).map(|d| vec![d]),
-        Worst => chain::worst(s, table).map(|(figure, release)| vec![figure, release]),
-        Bound => chain::bound(s, table).map(|b| vec![b]),
+        Sampling => chain::sampling(s, table).map(|(figure, release)| vec![figure, release]),
+        Bound => chain::sampling_bound(s, table).map(|b| vec![b]),
         Margin => chain::margin(s, number, table).map(signed),
-        DefaultMargin => chain::margin(s, 1_000, table).map(signed),
-        Figures => schedule::responses(s, table).map(|w| {
-            let chain = &s.chain[..s.length as usize];
-            let (figure, release) = w.worst(chain);
-            [totals(&w), vec![figure, release, w.bound(chain)], signed(1_000 - i64::from(figure)), greatest(&w)].concat()
+        DefaultMargin => chain::margin(s, chain::DEFAULT_LIMIT, table).map(signed),
+        Figures => chain::figures(s, table).map(|(w, f)| {
+            let ticks = vec![f.sampling, f.release, f.sampling_bound, f.worst, f.bound];
+            [totals(&w), ticks, signed(f.margin), greatest(&w)].concat()
         }),
         _ => unreachable!("{call:?} takes no sheet"),
     }

@@ -1,22 +1,20 @@
 //! The report program's lines.
 
-use crate::schedule::responses;
+use crate::chain::figures;
 use crate::sheet::read;
 use crate::Refusal;
 use std::fmt::Write as _;
 
 fn lines(bytes: &[u8]) -> Result<String, Refusal> {
     let s = read(bytes)?;
-    let w = responses(&s, &mut [0; 8_192])?;
-    let chain = &s.chain[..s.length as usize];
+    let (w, f) = figures(&s, &mut [0; 8_192])?;
     let mut text = format!("tasks {} hyperperiod {} jobs {} idle {}\n", s.count, w.hyperperiod, w.jobs, w.idle);
     for (i, row) in w.responses.iter().enumerate() {
         writeln!(text, "task {i} response {}", row.iter().max().unwrap()).unwrap();
     }
-    let indices: Vec<String> = chain.iter().map(u8::to_string).collect();
+    let indices: Vec<String> = s.chain[..s.length as usize].iter().map(u8::to_string).collect();
     writeln!(text, "chain {}", indices.join(" ")).unwrap();
-    let (figure, release) = w.worst(chain);
-    writeln!(text, "worst {figure} from {release}\nbound {}\nmargin {}", w.bound(chain), 1_000 - i64::from(figure)).unwrap();
+    writeln!(text, "worst {} from {}\nbound {}\nmargin {}", f.worst, f.release, f.bound, f.margin).unwrap();
     Ok(text)
 }
 

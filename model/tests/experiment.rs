@@ -1,35 +1,96 @@
-//! The experiment on demand 3 passes a true claim and finds each kind of false one.
+//! The experiment on demand 3 passes a true claim and finds each kind of false one, and the model's own figures pass it on sheets by
+//! chance.
 
-use model::experiment::{experiment, Claim, Followed};
+use model::chain::figures;
+use model::experiment::{experiment, first_from, Claim, Followed};
+use model::generate::sheet;
 use model::random::Random;
-use model::sheet::{memory, Task};
+use model::schedule::night;
+use model::sheet::{memory, Memory, Task};
 
-/// Sheet Radio with chain 0 1, along which ranks rise.
-fn radio(figure: u32, release: u32, bound: u32) -> Result<Followed, String> {
-    let tasks = [(20, 5, 1), (6, 1, 3), (12, 3, 2)].map(|(period, budget, rank)| Task { period, budget, rank });
-    experiment(&memory(&tasks, &[0, 1]), Claim { figure, release, bound }, &mut Random::new(1))
+fn tasks(list: &[(u32, u32, u8)]) -> Vec<Task> {
+    list.iter().map(|&(period, budget, rank)| Task { period, budget, rank }).collect()
+}
+
+const RADIO: &[(u32, u32, u8)] = &[(20, 5, 1), (6, 1, 3), (12, 3, 2)];
+
+/// What is true of sheet Radio with chain 0 1, along which ranks rise.
+const TRUE: Claim = Claim { sampling: 13, release: 0, sampling_bound: 15, worst: 32, bound: 34 };
+
+fn radio(claim: Claim) -> Result<Followed, String> {
+    experiment(&memory(&tasks(RADIO), &[0, 1]), claim, &mut Random::new(1))
+}
+
+fn trouble(claim: Claim) -> String {
+    radio(claim).err().expect("the claim is false")
 }
 
 #[test]
 fn true_claim() {
-    let followed = radio(13, 0, 15).unwrap();
-    assert_eq!((15, 1), (followed.paths, followed.rising));
+    let followed = radio(TRUE).unwrap();
+    assert_eq!((15, 1, 300), (followed.paths, followed.rising, followed.flags));
     assert!(followed.reached >= 1);
+    assert!(followed.latest >= 1);
 }
 
 #[test]
 fn figure_too_low() {
-    let trouble = radio(12, 0, 15).err().unwrap();
-    assert!(trouble.contains("released at 0 is not there at 12"), "{trouble}");
+    assert!(trouble(Claim { sampling: 12, ..TRUE }).contains("released at 0 is not there at 12"));
+}
+
+/// With full budgets the job released at 40 starts then; the next is released at 60 and takes 13.
+#[test]
+fn worst_too_low() {
+    assert!(trouble(Claim { worst: 31, ..TRUE }).contains("Full demands: the flag raised at 41 is not stamped at 72"));
+    assert!(trouble(Claim { worst: TRUE.sampling, ..TRUE }).contains("the flag raised at 5 is not stamped at 18"));
 }
 
 #[test]
-fn figure_above_the_bound() {
-    assert!(radio(13, 0, 12).err().unwrap().contains("above the bound"));
+fn figure_above_its_bound() {
+    assert!(trouble(Claim { sampling_bound: 12, ..TRUE }).contains("the sampling figure 13 is above its bound 12"));
+    assert!(trouble(Claim { bound: 31, ..TRUE }).contains("the worst 32 is above its bound 31"));
 }
 
 #[test]
 fn figure_not_reached() {
-    assert!(radio(14, 0, 15).err().unwrap().contains("takes less than 14"));
-    assert!(radio(13, 20, 15).err().unwrap().contains("released at 20 takes less than 13"));
+    assert!(trouble(Claim { sampling: 14, ..TRUE }).contains("takes less than 14"));
+    assert!(trouble(Claim { release: 20, ..TRUE }).contains("released at 20 takes less than 13"));
+}
+
+/// In Radio's full-budget schedule the jobs of task 0 start at 4, 20 and 40. A flag on the tick of a start is taken there; one that is
+/// raised while a job waits to start is taken by that job, and one tick after its start by the next.
+#[test]
+fn the_job_that_takes_a_flag() {
+    let radio = tasks(RADIO);
+    let night = night(&radio, 120, |i, _| radio[i].budget);
+    assert_eq!([Some(4), Some(20), Some(40), Some(64)], night.starts[0][..4]);
+    assert_eq!([0, 0, 1, 1, 2, 2, 3, 3], [0, 4, 5, 20, 21, 40, 41, 64].map(|raised| first_from(&night, 0, raised)));
+}
+
+fn claim(s: &Memory) -> Option<Claim> {
+    let (_, f) = figures(s, &mut [0; 8_192]).ok()?;
+    Some(Claim { sampling: f.sampling, release: f.release, sampling_bound: f.sampling_bound, worst: f.worst, bound: f.bound })
+}
+
+/// A first task alone that takes one tick: with whatever demands, the flag raised one tick after its start is as late as the worst.
+#[test]
+fn shortest_and_longest_first_period() {
+    for period in [1, 2, 100_000] {
+        let s = memory(&tasks(&[(period, 1, 1)]), &[0]);
+        let followed = experiment(&s, claim(&s).unwrap(), &mut Random::new(1)).unwrap();
+        assert_eq!((5 * u64::from(period), 5), (followed.flags, followed.latest));
+    }
+}
+
+#[test]
+fn figures_of_the_model() {
+    let mut random = Random::new(2);
+    let mut sum = Followed::default();
+    for _ in 0..600 {
+        let s = sheet(&mut random);
+        if let Some(claim) = claim(&s) {
+            sum.add(&experiment(&s, claim, &mut random).unwrap_or_else(|trouble| panic!("{claim:?} of {s:?}: {trouble}")));
+        }
+    }
+    assert!(sum.flags > 1_000_000 && sum.latest > 0 && sum.rising > 0);
 }

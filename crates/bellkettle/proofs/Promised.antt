@@ -4,7 +4,7 @@ use Rattle.bellkettle.specs.declared.Question.{Question}
 use Rattle.bellkettle.specs.Promises.{SheetAsked, SheetRead, SheetWritten}
 use Rattle.bellkettle.proofs.bellkettle_responses.Reads as bellkettle_responses
 use Rattle.bellkettle.proofs.bellkettle_delay.Reads as bellkettle_delay
-use Rattle.bellkettle.proofs.bellkettle_worst.Reads as bellkettle_worst
+use Rattle.bellkettle.proofs.bellkettle_sampling.Reads as bellkettle_sampling
 use Rattle.bellkettle.proofs.bellkettle_bound.Reads as bellkettle_bound
 use Rattle.bellkettle.proofs.bellkettle_margin.Reads as bellkettle_margin
 use Rattle.bellkettle.proofs.bellkettle_default_margin.Reads as bellkettle_default_margin
@@ -18,8 +18,8 @@ bellkettle-responses-promised = refl
 bellkettle-delay-promised : bellkettle_delay.Learnt ≡ (λ κs a r e. SheetAsked (Question.Delay (a .1 .0)) (a .0 .now) r (a .1 .1 .1 .0 .now) (e .1 .1 .1 .0 .now) (a .1 .1 .0 .now) (e .1 .1 .0 .now))
 bellkettle-delay-promised = refl
 
-bellkettle-worst-promised : bellkettle_worst.Learnt ≡ (λ κs a r e. SheetAsked Question.Worst (a .0 .now) r (a .1 .1 .0 .now) (e .1 .1 .0 .now) (a .1 .0 .now) (e .1 .0 .now))
-bellkettle-worst-promised = refl
+bellkettle-sampling-promised : bellkettle_sampling.Learnt ≡ (λ κs a r e. SheetAsked Question.Sampling (a .0 .now) r (a .1 .1 .0 .now) (e .1 .1 .0 .now) (a .1 .0 .now) (e .1 .0 .now))
+bellkettle-sampling-promised = refl
 
 bellkettle-bound-promised : bellkettle_bound.Learnt ≡ (λ κs a r e. SheetAsked Question.Bound (a .0 .now) r (a .1 .1 .0 .now) (e .1 .1 .0 .now) (a .1 .0 .now) (e .1 .0 .now))
 bellkettle-bound-promised = refl

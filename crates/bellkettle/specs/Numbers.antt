@@ -8,9 +8,9 @@ use Rattle.schedule.specs.declared.answer.Totals.{Totals}
 use Rattle.schedule.specs.Calls.{responsesOf}
 use Rattle.chain.specs.declared.answer.Figure.{Figure}
 use Rattle.chain.specs.declared.answer.Summary.{Summary}
-use Rattle.chain.specs.Calls.{delayOf, worstOf, boundOf, marginOf, defaultMarginOf, figuresOf}
+use Rattle.chain.specs.Calls.{delayOf, samplingOf, boundOf, marginOf, defaultMarginOf, figuresOf}
 use Rattle.bellkettle.specs.declared.Question.{Question}
-use Rattle.bellkettle.specs.declared.Question.the-variants.{Responses, Delay, Worst, Bound, Margin, DefaultMargin, Figures}
+use Rattle.bellkettle.specs.declared.Question.the-variants.{Responses, Delay, Sampling, Bound, Margin, DefaultMargin, Figures}
 
 -- "A refusal returns its number": 0 where there is none.
 abbrev pub numberOf : Answer (List ℤ) → ℕ
@@ -40,7 +40,8 @@ abbrev pub figureNumbers : Figure → List ℤ
 figureNumbers f = pos (f .ticks) ∷ pos (f .release) ∷ []
 
 abbrev pub summaryNumbers : Summary → List ℤ
-summaryNumbers s = totalsNumbers (s .totals) ++ figureNumbers (s .worst) ++ alone (s .bound) ++ signed (s .margin)
+summaryNumbers s =
+    totalsNumbers (s .totals) ++ figureNumbers (s .sampling) ++ alone (s .«sampling_bound») ++ alone (s .worst) ++ alone (s .bound) ++ signed (s .margin)
 
 -- n and m.
 abbrev pub countNumbers : Sheet → List ℤ
@@ -50,7 +51,7 @@ countNumbers s = pos (s .count) ∷ pos (s .length) ∷ []
 abbrev pub answerTo : Question → ℕ → Sheet → Answer (List ℤ)
 answerTo Responses room s = inNumbers totalsNumbers (responsesOf s room)
 answerTo (Delay release) room s = inNumbers alone (delayOf s release room)
-answerTo Worst room s = inNumbers figureNumbers (worstOf s room)
+answerTo Sampling room s = inNumbers figureNumbers (samplingOf s room)
 answerTo Bound room s = inNumbers alone (boundOf s room)
 answerTo (Margin limit) room s = inNumbers signed (marginOf s limit room)
 answerTo DefaultMargin room s = inNumbers signed (defaultMarginOf s room)

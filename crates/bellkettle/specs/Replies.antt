@@ -14,9 +14,13 @@ use Rattle.bellkettle.specs.Numbers.{numberOf, valuesOf}
 abbrev pub valuesTold : Reply → List ℤ
 valuesTold reply = take (reply .count) (reply .values)
 
+-- No answer has more values than the figures of a report.
+abbrev pub mostValues : ℕ
+mostValues = 9
+
 -- A reply has the number and the values of an answer.
 pub record Tells (reply : Reply) (answer : Answer (List ℤ)) : Type 0 where
-  pub count-most : reply .count ≤ 7
+  pub count-most : reply .count ≤ mostValues
   pub number-is : reply .number ≡ numberOf answer
   pub values-are : valuesTold reply ≡ valuesOf answer
 

@@ -11,9 +11,9 @@ use Rattle.sheet.specs.Calls.{readOf}
 use Rattle.sheet.specs.NumberLaws.{read-numbered, write-numbered}
 use Rattle.schedule.specs.NumberLaws.{responses-numbered}
 use Rattle.chain.specs.Calls.{defaultLimit}
-use Rattle.chain.specs.NumberLaws.{delay-numbered, worst-numbered, bound-numbered, margin-numbered, figures-numbered}
+use Rattle.chain.specs.NumberLaws.{delay-numbered, sampling-numbered, bound-numbered, margin-numbered, figures-numbered}
 use Rattle.bellkettle.specs.declared.Question.{Question}
-use Rattle.bellkettle.specs.declared.Question.the-variants.{Responses, Delay, Worst, Bound, Margin, DefaultMargin, Figures}
+use Rattle.bellkettle.specs.declared.Question.the-variants.{Responses, Delay, Sampling, Bound, Margin, DefaultMargin, Figures}
 use Rattle.bellkettle.specs.Numbers.{numberOf, inNumbers, alone, signed, totalsNumbers, figureNumbers, summaryNumbers, countNumbers, answerTo}
 use Rattle.bellkettle.specs.Promises.{countsIn, sizeFor}
 
@@ -36,7 +36,7 @@ told-numbered numbers n = after-numbered n (λ a. given-numbered (numbers a))
 answer-numbered : (question : Question) (room : ℕ) (s : Sheet) → Numbered 2 15 (answerTo question room s)
 answer-numbered Responses room s = told-numbered totalsNumbers (responses-numbered s room)
 answer-numbered (Delay release) room s = told-numbered alone (delay-numbered s room release)
-answer-numbered Worst room s = told-numbered figureNumbers (worst-numbered s room)
+answer-numbered Sampling room s = told-numbered figureNumbers (sampling-numbered s room)
 answer-numbered Bound room s = told-numbered alone (bound-numbered s room)
 answer-numbered (Margin limit) room s = told-numbered signed (margin-numbered s room limit)
 answer-numbered DefaultMargin room s = told-numbered signed (margin-numbered s room defaultLimit)

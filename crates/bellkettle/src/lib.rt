@@ -8,8 +8,8 @@ use chain::Delay;
 use chain::Figure;
 use chain::Figures;
 use chain::Margin;
+use chain::Sampling;
 use chain::Summary;
-use chain::Worst;
 use schedule::Responses;
 use schedule::Totals;
 use sheet::Sheet;
@@ -26,28 +26,31 @@ ghost use Rattle.sheet.specs.Answers.{toldBytes};
 ghost use Rattle.sheet.specs.Tasks.{tasksOf};
 ghost use Rattle.schedule.specs.Calls.{toldTotals};
 ghost use Rattle.schedule.specs.Calls.{tableAfter};
-ghost use Rattle.chain.specs.Calls.{toldDelay, toldWorst, toldBound, toldMargin, toldFigures};
+ghost use Rattle.chain.specs.Calls.{toldDelay, toldSampling, toldBound, toldMargin, toldFigures};
 ghost use Rattle.bellkettle.specs.Numbers.{inNumbers, alone, signed, totalsNumbers, figureNumbers, summaryNumbers, countNumbers, answerTo};
 ghost use Rattle.bellkettle.specs.Fields.{periodsIn, budgetsIn, ranksIn, entriesIn, sixteen, counted, tasksCounted, taskFrom, entryFrom, sheetFrom};
 ghost use Rattle.bellkettle.specs.Promises.{SheetAsked, SheetRead, SheetWritten};
-ghost use Rattle.bellkettle.specs.Replies.{valuesTold, Tells, sizeIn};
+ghost use Rattle.bellkettle.specs.Replies.{mostValues, valuesTold, Tells, sizeIn};
 
 // What is asked of a sheet.
 enum Question {
     Responses,
     Delay(u32),
-    Worst,
+    Sampling,
     Bound,
     Margin(u32),
     DefaultMargin,
     Figures,
 }
 
+// No answer has more values than the figures of a report.
+const MOST_VALUES: usize = 9;
+
 // What is told: the number to return, and the values, which are the first `count` places.
 struct Reply {
     number: u8,
     count: usize,
-    values: [i64; 7],
+    values: [i64; MOST_VALUES],
 }
 
 fn wide(x: u32) -> i64
@@ -70,12 +73,12 @@ fn refuse(r: Refusal) -> Reply
         Refusal::Number(number) => Reply {
             number,
             count: 0,
-            values: [0; 7],
+            values: [0; MOST_VALUES],
         },
         Refusal::With(number, x) => Reply {
             number,
             count: 1,
-            values: [wide(x), 0, 0, 0, 0, 0, 0],
+            values: [wide(x), 0, 0, 0, 0, 0, 0, 0, 0],
         },
     }
 }
@@ -86,7 +89,7 @@ fn alone(n: u32) -> Reply
     Reply {
         number: 0,
         count: 1,
-        values: [wide(n), 0, 0, 0, 0, 0, 0],
+        values: [wide(n), 0, 0, 0, 0, 0, 0, 0, 0],
     }
 }
 
@@ -96,7 +99,7 @@ fn signed(z: i32) -> Reply
     Reply {
         number: 0,
         count: 1,
-        values: [wide_signed(z), 0, 0, 0, 0, 0, 0],
+        values: [wide_signed(z), 0, 0, 0, 0, 0, 0, 0, 0],
     }
 }
 
@@ -106,7 +109,7 @@ fn figure_numbers(f: Figure) -> Reply
     Reply {
         number: 0,
         count: 2,
-        values: [wide(f.ticks), wide(f.release), 0, 0, 0, 0, 0],
+        values: [wide(f.ticks), wide(f.release), 0, 0, 0, 0, 0, 0, 0],
     }
 }
 
@@ -118,7 +121,7 @@ fn count_numbers(s: Sheet) -> Reply
     Reply {
         number: 0,
         count: 2,
-        values: [wide(n), wide(m), 0, 0, 0, 0, 0],
+        values: [wide(n), wide(m), 0, 0, 0, 0, 0, 0, 0],
     }
 }
 
@@ -128,7 +131,17 @@ fn totals_numbers(t: Totals) -> Reply
     Reply {
         number: 0,
         count: 3,
-        values: [wide(t.hyperperiod), wide(t.jobs), wide(t.idle), 0, 0, 0, 0],
+        values: [
+            wide(t.hyperperiod),
+            wide(t.jobs),
+            wide(t.idle),
+            0,
+            0,
+            0,
+            0,
+            0,
+            0,
+        ],
     }
 }
 
@@ -137,13 +150,15 @@ fn summary_numbers(s: Summary) -> Reply
 {
     Reply {
         number: 0,
-        count: 7,
+        count: 9,
         values: [
             wide(s.totals.hyperperiod),
             wide(s.totals.jobs),
             wide(s.totals.idle),
-            wide(s.worst.ticks),
-            wide(s.worst.release),
+            wide(s.sampling.ticks),
+            wide(s.sampling.release),
+            wide(s.sampling_bound),
+            wide(s.worst),
             wide(s.bound),
             wide_signed(s.margin),
         ],
@@ -169,11 +184,11 @@ fn delay_reply(d: Delay) -> Reply
     alone(ticks)
 }
 
-fn worst_reply(w: Worst) -> Reply
-    ensures { λ reply. ⌜ Tells reply (inNumbers figureNumbers (toldWorst w)) ⌝ }
+fn sampling_reply(w: Sampling) -> Reply
+    ensures { λ reply. ⌜ Tells reply (inNumbers figureNumbers (toldSampling w)) ⌝ }
 {
-    let Worst::Is(figure) = w else {
-        return refuse(chain::worst_refusal(w));
+    let Sampling::Is(figure) = w else {
+        return refuse(chain::sampling_refusal(w));
     };
     figure_numbers(figure)
 }
@@ -223,7 +238,7 @@ fn answer(question: Question, s: Sheet, table: &mut [u32]) -> Reply
     match question {
         Question::Responses => responses_reply(schedule::responses(s, &mut *table)),
         Question::Delay(release) => delay_reply(chain::delay(s, release, &mut *table)),
-        Question::Worst => worst_reply(chain::worst(s, &mut *table)),
+        Question::Sampling => sampling_reply(chain::sampling(s, &mut *table)),
         Question::Bound => bound_reply(chain::bound(s, &mut *table)),
         Question::Margin(limit) => margin_reply(chain::margin(s, limit, &mut *table)),
         Question::DefaultMargin => margin_reply(chain::default_margin(s, &mut *table)),
@@ -246,7 +261,7 @@ fn put(values: &mut [i64], i: usize, x: i64)
 
 // The number to return, with the values in their places.
 fn hand(reply: Reply, values: &mut [i64]) -> u8
-    requires { ⌜ reply .count ≤ 7 ⌝ }
+    requires { ⌜ reply .count ≤ mostValues ⌝ }
     ensures { λ n. ⌜ n ≡ reply .number ⌝ }
     ensures { λ _. ⌜ now (values .exit) ≡ sets (now (values .entry)) 0 (valuesTold reply) ⌝ }
 {
@@ -291,15 +306,15 @@ pub extern "C" fn bellkettle_delay(
     ask(Question::Delay(release), sheet, &mut *table, &mut *values)
 }
 
-// The worst figure, and the smallest release that gives it.
+// The sampling figure, and the smallest release that gives it.
 #[no_mangle]
-pub extern "C" fn bellkettle_worst(sheet: &[u8], table: &mut [u32], values: &mut [i64]) -> u8
-    ensures { λ r. ⌜ SheetAsked Question.Worst (now (sheet .entry)) r (now (values .entry)) (now (values .exit)) (now (table .entry)) (now (table .exit)) ⌝ }
+pub extern "C" fn bellkettle_sampling(sheet: &[u8], table: &mut [u32], values: &mut [i64]) -> u8
+    ensures { λ r. ⌜ SheetAsked Question.Sampling (now (sheet .entry)) r (now (values .entry)) (now (values .exit)) (now (table .entry)) (now (table .exit)) ⌝ }
 {
-    ask(Question::Worst, sheet, &mut *table, &mut *values)
+    ask(Question::Sampling, sheet, &mut *table, &mut *values)
 }
 
-// The quick bound.
+// The quick bound of that figure.
 #[no_mangle]
 pub extern "C" fn bellkettle_bound(sheet: &[u8], table: &mut [u32], values: &mut [i64]) -> u8
     ensures { λ r. ⌜ SheetAsked Question.Bound (now (sheet .entry)) r (now (values .entry)) (now (values .exit)) (now (table .entry)) (now (table .exit)) ⌝ }
@@ -307,7 +322,7 @@ pub extern "C" fn bellkettle_bound(sheet: &[u8], table: &mut [u32], values: &mut
     ask(Question::Bound, sheet, &mut *table, &mut *values)
 }
 
-// A limit less the worst figure.
+// A limit less the worst from a flag on.
 #[no_mangle]
 pub extern "C" fn bellkettle_margin(
     sheet: &[u8],

@@ -29,7 +29,7 @@ use Rattle.schedule.specs.Results.{responses-given, given-taken}
 use Rattle.schedule.specs.Taken.{Taken, Holds}
 use Rattle.schedule.specs.RowLaws.{filled-holds}
 use Rattle.chain.specs.declared.answer.Figure.{Figure}
-use Rattle.chain.specs.Calls.{delayAt, figureOf, quickBound, less, noRelease, mostLimit, delayOf, worstOf, boundOf, marginOf}
+use Rattle.chain.specs.Calls.{delayAt, figureOf, quickBound, fromFlag, less, noRelease, mostLimit, delayOf, samplingOf, boundOf, marginOf}
 use Rattle.chain.specs.Conditions.{TakenChain}
 
 -- ---- how a call ends
@@ -83,8 +83,8 @@ module _ (s : Sheet) (room : ℕ) {size : Size} (fits : sizesOf s ≡ given size
   margin-over limit h = rw (fits, lt-ltb mostLimit limit h)
 
 -- A limit that is allowed takes no part in the refusals.
-pub margin-asked : (s : Sheet) (room limit : ℕ) → limit ≤ mostLimit → marginOf s limit room ≡ after (worstOf s room) (λ figure. given (less limit (figure .ticks)))
-unfolding marginOf worstOf responsesOf
+pub margin-asked : (s : Sheet) (room limit : ℕ) → limit ≤ mostLimit → marginOf s limit room ≡ after (samplingOf s room) (λ figure. given (less limit (fromFlag (tasksOf s) (chainOf s) (figure .ticks))))
+unfolding marginOf samplingOf responsesOf
 margin-asked s room limit h = rw (le-ltb mostLimit limit h) (go (sizesOf s) _ _ _)
   where
     go : (z : Answer Size) (fill : Size → Answer Totals) (figure : Totals → Answer Figure) (less : Figure → Answer ℤ)
@@ -114,9 +114,13 @@ figure-given s room y e =
     let g = after-given (responsesOf s room) (λ totals. given y) e in
     (filled-chain s room (g .1), cc (g .2))
 
-pub worst-given : (s : Sheet) (room : ℕ) {figure : Figure} → worstOf s room ≡ given figure → TakenChain (tasksOf s) (chainOf s) × (figureOf (tasksOf s) (chainOf s) ≡ figure)
-unfolding worstOf
-worst-given s room e = figure-given s room (figureOf (tasksOf s) (chainOf s)) e
+pub sampling-given : (s : Sheet) (room : ℕ) {figure : Figure} → samplingOf s room ≡ given figure → TakenChain (tasksOf s) (chainOf s) × (figureOf (tasksOf s) (chainOf s) ≡ figure)
+unfolding samplingOf
+sampling-given s room e = figure-given s room (figureOf (tasksOf s) (chainOf s)) e
+
+pub sampling-sound : (s : Sheet) (room : ℕ) {figure : Figure} → samplingOf s room ≡ given figure → Sound s
+unfolding samplingOf
+sampling-sound s room e = judged-sound s (responses-given s room (after-given (responsesOf s room) _ e .1) .judged-fine)
 
 pub bound-given : (s : Sheet) (room : ℕ) {ticks : ℕ} → boundOf s room ≡ given ticks → TakenChain (tasksOf s) (chainOf s) × (quickBound (tasksOf s) (chainOf s) ≡ ticks)
 unfolding boundOf
@@ -143,10 +147,10 @@ delay-release s at room e =
     go false q = ltb-false 0 (at % T) q
 
 pub margin-given : (s : Sheet) (limit room : ℕ) {z : ℤ} → marginOf s limit room ≡ given z
-    → (w r : ℕ) × (worstOf s room ≡ given (record { ticks = w; release = r })) × (less limit w ≡ z)
+    → (w r : ℕ) × (samplingOf s room ≡ given (record { ticks = w; release = r })) × (less limit (fromFlag (tasksOf s) (chainOf s) w) ≡ z)
 unfolding marginOf
 margin-given s limit room e =
     let judged = after-given (sizesOf s) _ e in
     let asked = also-given (when (ltb mostLimit limit) 13) _ (judged .2) in
-    let g = after-given (worstOf s room) _ (asked .1) in
+    let g = after-given (samplingOf s room) _ (asked .1) in
     (g .0 .ticks, g .0 .release, g .1, cc (g .2))

@@ -8,7 +8,8 @@ use lib.IntN.{ℤ, pos, _-ℤ_}
 use Rattle.theory.specs.declared.Task.{Task}
 use Rattle.theory.specs.Model.Schedule.{period}
 use Rattle.theory.specs.Model.Responses.{response, hyperperiod, taskResponse}
-use Rattle.theory.specs.Model.Chain.{delay, worst, worstRelease, bound}
+use Rattle.theory.specs.Model.Flag as flag
+use Rattle.theory.specs.Model.Chain.{delay, sampling, samplingRelease, bound}
 use Rattle.sheet.specs.declared.Sheet.{Sheet}
 use Rattle.answers.specs.declared.Refusal.{Refusal}
 use Rattle.answers.specs.declared.Refusal.the-variants.{Number}
@@ -19,8 +20,8 @@ use Rattle.schedule.specs.declared.answer.Totals.{Totals}
 use Rattle.chain.specs.declared.answer.Figure.{Figure}
 use Rattle.chain.specs.declared.answer.Delay.{Delay}
 use Rattle.chain.specs.declared.answer.Delay.the-variants.{Ticks as DelayTicks, No as NoDelay}
-use Rattle.chain.specs.declared.answer.Worst.{Worst}
-use Rattle.chain.specs.declared.answer.Worst.the-variants.{Is, No as NoWorst}
+use Rattle.chain.specs.declared.answer.Sampling.{Sampling}
+use Rattle.chain.specs.declared.answer.Sampling.the-variants.{Is, No as NoSampling}
 use Rattle.chain.specs.declared.answer.Bound.{Bound}
 use Rattle.chain.specs.declared.answer.Bound.the-variants.{Ticks as BoundTicks, No as NoBound}
 use Rattle.chain.specs.declared.answer.Margin.{Margin}
@@ -33,15 +34,21 @@ use Rattle.chain.specs.declared.answer.Figures.the-variants.{Of, No as N
 abbrev pub delayAt : List Task → List ℕ → ℕ → ℕ
 delayAt ts chain release = delay ts (response ts) (firstOf chain) (restOf chain) release
 
--- "The worst figure is the greatest delay over the first task's releases in 0 to H − 1. With it goes the smallest release that gives it."
+-- The sampling figure is document 01's worst figure, "the greatest delay over the first task's releases in 0 to H − 1. With it goes the smallest
+-- release that gives it."
 abbrev pub figureOf : List Task → List ℕ → Figure
 figureOf ts chain = record {
-  ticks = worst ts (response ts) (firstOf chain) (restOf chain);
-  release = worstRelease ts (response ts) (firstOf chain) (restOf chain);
+  ticks = sampling ts (response ts) (firstOf chain) (restOf chain);
+  release = samplingRelease ts (response ts) (firstOf chain) (restOf chain);
 }
 
 abbrev pub quickBound : List Task → List ℕ → ℕ
 quickBound ts chain = bound ts (taskResponse ts) (firstOf chain) (restOf chain)
+
+-- "The report's worst and bound now add T − 1 of the first task; every margin now uses that worst" (document 02, P2): what counts from a
+-- release, counted from a flag.
+abbrev pub fromFlag : List Task → List ℕ → ℕ → ℕ
+fromFlag ts chain ticks = flag.fromFlag ts (firstOf chain) ticks
 
 -- "Margin is a limit less the worst figure, and may fall below zero."
 abbrev pub less : ℕ → ℕ → ℤ
@@ -59,8 +66,8 @@ delayOf s release room =
     (after (responsesOf s room) λ totals.
     given (delayAt (tasksOf s) (chainOf s) release))
 
-unfoldable pub worstOf : Sheet → ℕ → Answer Figure
-worstOf s room =
+unfoldable pub samplingOf : Sheet → ℕ → Answer Figure
+samplingOf s room =
     after (responsesOf s room) λ totals.
     given (figureOf (tasksOf s) (chainOf s))
 
@@ -81,19 +88,22 @@ unfoldable pub marginOf : Sheet → ℕ → ℕ → Answer ℤ
 marginOf s limit room =
     after (sizesOf s) λ size.
     also (when (ltb mostLimit limit) 13)
-    (after (worstOf s room) λ figure.
-    given (less limit (figure .ticks)))
+    (after (samplingOf s room) λ figure.
+    given (less limit (fromFlag (tasksOf s) (chainOf s) (figure .ticks))))
 
 abbrev pub defaultMarginOf : Sheet → ℕ → Answer ℤ
 defaultMarginOf s room = marginOf s defaultLimit room
 
--- What a report says: "n, H, J, idle", "the worst figure and its smallest release; the bound; the margin under the default limit".
+-- What a report says: "n, H, J, idle", "the worst figure and its smallest release; the bound; the margin under the default limit"; and the
+-- sampling figure and its bound, which count from a release.
 abbrev pub summaryOf : List Task → List ℕ → Totals → Summary
 summaryOf ts chain totals = record {
   totals = totals;
-  worst = figureOf ts chain;
-  bound = quickBound ts chain;
-  margin = less defaultLimit (figureOf ts chain .ticks);
+  sampling = figureOf ts chain;
+  «sampling_bound» = quickBound ts chain;
+  worst = fromFlag ts chain (figureOf ts chain .ticks);
+  bound = fromFlag ts chain (quickBound ts chain);
+  margin = less defaultLimit (fromFlag ts chain (figureOf ts chain .ticks));
 }
 
 unfoldable pub figuresOf : Sheet → ℕ → Answer Summary
@@ -106,9 +116,9 @@ abbrev pub toldDelay : Delay → Answer ℕ
 toldDelay (DelayTicks ticks) = given ticks
 toldDelay (NoDelay r) = refusal r
 
-abbrev pub toldWorst : Worst → Answer Figure
-toldWorst (Is figure) = given figure
-toldWorst (NoWorst r) = refusal r
+abbrev pub toldSampling : Sampling → Answer Figure
+toldSampling (Is figure) = given figure
+toldSampling (NoSampling r) = refusal r
 
 abbrev pub toldBound : Bound → Answer ℕ
 toldBound (BoundTicks ticks) = given ticks
@@ -127,9 +137,9 @@ abbrev pub delayRefusal : Delay → Refusal
 delayRefusal (DelayTicks ticks) = Number 0
 delayRefusal (NoDelay r) = r
 
-abbrev pub worstRefusal : Worst → Refusal
-worstRefusal (Is figure) = Number 0
-worstRefusal (NoWorst r) = r
+abbrev pub samplingRefusal : Sampling → Refusal
+samplingRefusal (Is figure) = Number 0
+samplingRefusal (NoSampling r) = r
 
 abbrev pub boundRefusal : Bound → Refusal
 boundRefusal (BoundTicks ticks) = Number 0

@@ -20,7 +20,7 @@ use Rattle.chain.specs.declared.answer.HandOver.{HandOver}
 -- ---- the largest figures
 
 -- A period, and so a response, is at most 100,000; then a hand-over takes at most 200,000 ticks, a chain of sixteen tasks at most
--- 3,100,000, and from a release before H no release on its way is later than 4,000,000.
+-- 3,100,000, from a flag on at most 3,200,000, and from a release before H no release on its way is later than 4,000,000.
 abbrev pub mostPeriod : ℕ
 mostPeriod = 100000
 
@@ -29,6 +29,9 @@ mostWait = 200000
 
 abbrev pub mostFigure : ℕ
 mostFigure = 3100000
+
+abbrev pub mostWorst : ℕ
+mostWorst = 3200000
 
 abbrev pub mostRelease : ℕ
 mostRelease = 4000000

@@ -12,7 +12,7 @@ use Rattle.theory.specs.Model.Schedule.{period, release}
 use Rattle.theory.specs.Model.Responses.{response, jobs, taskResponse}
 use Rattle.theory.specs.Analysis.Hyperperiod.{jobs-whole, jobs-positive, jobs-released}
 use Rattle.theory.specs.Analysis.Repetition.{response-jobs, response-period}
-use Rattle.theory.specs.Model.Chain.{Chain, walkDelay, outranked, delay, worst, worstRelease, bound}
+use Rattle.theory.specs.Model.Chain.{Chain, walkDelay, outranked, delay, sampling, samplingRelease, bound}
 use Rattle.theory.specs.Analysis.ChainLaws.{chain-head}
 use Rattle.theory.specs.Analysis.WalkLaws.{Alike, walk-delay-same, walk-bound-same}
 use Rattle.sheet.specs.Tasks.{firstOf, restOf}
@@ -97,10 +97,10 @@ module _ {ts : List Task} {chain : List ℕ} (taken : TakenChain ts chain) {tabl
       ap (λ T. walkDelay (periodIn plan) (waitsIn plan) (rowsIn plan table) p (restOf chain) (k * T)) (planned .periods-are p known)
       ∙ walk-delay-same alike (rowsIn plan table) (response ts) response-is p (restOf chain) (release ts p k) (taken .known)
 
-  -- its worst figure,
-  pub plan-worst : (figure : Figure) → Greatest (countIn plan p) (periodIn plan p) (delayIn plan table chain) figure → figure ≡ figureOf ts chain
-  unfolding worst worstRelease
-  plan-worst figure g = ap₂ pair (g .ticks-is ∙ ticks) (g .release-is ∙ at)
+  -- its sampling figure,
+  pub plan-sampling : (figure : Figure) → Greatest (countIn plan p) (periodIn plan p) (delayIn plan table chain) figure → figure ≡ figureOf ts chain
+  unfolding sampling samplingRelease
+  plan-sampling figure g = ap₂ pair (g .ticks-is ∙ ticks) (g .release-is ∙ at)
     where
       pair : ℕ → ℕ → Figure
       pair x y = record { ticks = x; release = y }
@@ -111,11 +111,11 @@ module _ {ts : List Task} {chain : List ℕ} (taken : TakenChain ts chain) {tabl
       same : delayIn plan table chain ≡ (λ k. delayAt ts chain (release ts p k))
       same = fun-ext plan-delay
 
-      ticks : maximum (countIn plan p) (delayIn plan table chain) ≡ worst ts (response ts) p (restOf chain)
+      ticks : maximum (countIn plan p) (delayIn plan table chain) ≡ sampling ts (response ts) p (restOf chain)
       ticks = ap₂ maximum n same
 
       at : least (countIn plan p) (λ k. eqb (delayIn plan table chain k) (maximum (countIn plan p) (delayIn plan table chain))) * periodIn plan p
-          ≡ worstRelease ts (response ts) p (restOf chain)
+          ≡ samplingRelease ts (response ts) p (restOf chain)
       at = ap₂ _*_ (ap₂ (λ m f. least m (λ k. eqb (f k) (maximum m f))) n same) (planned .periods-are p known)
 
   -- and its quick bound.

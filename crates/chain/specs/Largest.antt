@@ -10,12 +10,13 @@ use Rattle.arith.specs.WholeLaws.{gcd-divides-right, gcd-pos, up-near}
 use Rattle.arith.specs.RangeLaws.{maximum-least}
 use Rattle.theory.specs.declared.Task.{Task}
 use Rattle.theory.specs.Model.Schedule.{period, release}
-use Rattle.theory.specs.Model.Chain.{Chain, Waits, Table, walkNext, walkDelay, walkBound, outranked, delay, worst}
-use Rattle.theory.specs.Model.Responses.{response, jobs}
+use Rattle.theory.specs.Model.Chain.{Chain, Waits, Table, walkNext, walkDelay, walkBound, outranked, delay, sampling, bound}
+use Rattle.theory.specs.Model.Responses.{response, jobs, taskResponse}
 use Rattle.theory.specs.Analysis.Repetition.{response-period}
+use Rattle.theory.specs.Analysis.ChainLaws.{chain-head}
 use Rattle.sheet.specs.Tasks.{firstOf, restOf}
-use Rattle.chain.specs.Conditions.{mostPeriod, mostWait, mostFigure, TakenChain, pairBound}
-use Rattle.chain.specs.Calls.{figureOf}
+use Rattle.chain.specs.Conditions.{mostPeriod, mostWait, mostFigure, mostWorst, TakenChain, pairBound}
+use Rattle.chain.specs.Calls.{figureOf, quickBound, fromFlag}
 
 -- ---- what holds of every task on a chain
 
@@ -86,7 +87,7 @@ module _ (T : ℕ → ℕ) (waits : Waits) (R : ℕ → ℕ) where
   bound-most p [] s = omega (arith, s .response-most)
   bound-most p (c ∷ rest) s = omega (arith, pair-most p c (s .0) (along-first (SmallTask T R) c rest (s .1)), bound-most c rest (s .1))
 
--- ---- the worst figure
+-- ---- the figures of a chain that is answered
 
 module _ {ts : List Task} {chain : List ℕ} (taken : TakenChain ts chain) where
   task-small : (i : ℕ) → i < length ts → Small (period ts) (response ts) i
@@ -96,18 +97,42 @@ module _ {ts : List Task} {chain : List ℕ} (taken : TakenChain ts chain) where
     response-most = λ k. le-trans (response-period (taken .tasks .accepted) i l k) (taken .tasks .period-most i l);
   }
 
-  -- Sixteen tasks: fifteen hand-overs and the last response.
-  pub worst-most : figureOf ts chain .ticks ≤ mostFigure
-  unfolding worst
-  worst-most = maximum-least (jobs ts p) (λ k. delay ts (response ts) p rest (release ts p k)) mostFigure (λ k l. omega (
+  abbrev p : ℕ
+  p = firstOf chain
+
+  abbrev rest : List ℕ
+  rest = restOf chain
+
+  known : p < length ts
+  known = chain-head ts p rest (taken .known)
+
+  -- Sixteen tasks: fifteen hand-overs and the last response,
+  pub sampling-most : figureOf ts chain .ticks ≤ mostFigure
+  unfolding sampling
+  sampling-most = maximum-least (jobs ts p) (λ k. delay ts (response ts) p rest (release ts p k)) mostFigure (λ k l. omega (
     arith,
     length-drop 1 chain,
     taken .few,
     delay-most (period ts) (outranked ts) (response ts) p rest (release ts p k) (along-chain (Small (period ts) (response ts)) ts task-small p rest (taken .known)),
   ))
-    where
-      p : ℕ
-      p = firstOf chain
 
-      rest : List ℕ
-      rest = restOf chain
+  -- or the greatest responses instead;
+  pub quick-most : quickBound ts chain ≤ mostFigure
+  unfolding bound taskResponse
+  quick-most = omega (
+    arith,
+    length-drop 1 chain,
+    taken .few,
+    bound-most (period ts) (outranked ts) (taskResponse ts) p rest (along-chain (SmallTask (period ts) (taskResponse ts)) ts greatest-small p rest (taken .known)),
+  )
+    where
+      greatest-small : (i : ℕ) → i < length ts → SmallTask (period ts) (taskResponse ts) i
+      greatest-small i l = let x = task-small i l in record {
+        period-positive = x .period-positive;
+        period-most = x .period-most;
+        response-most = maximum-least (jobs ts i) (response ts i) mostPeriod (λ k m. x .response-most k);
+      }
+
+  -- and from a flag on, a period more.
+  pub flag-most : (ticks : ℕ) → ticks ≤ mostFigure → fromFlag ts chain ticks ≤ mostWorst
+  flag-most ticks l = omega (arith, taken .tasks .period-most p known)

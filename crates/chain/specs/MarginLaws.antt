@@ -4,9 +4,9 @@ use mathlib.Core.Bool.{cond}
 use Prim.Native.Nat.{ℕ, zero, suc, _-_, _≤_, _<_}
 use native.Mathlib.Decide.{decLe}
 use native.Mathlib.Omega.{arith}
-use lib.Dec.{T, ltb→lt}
+use lib.Dec.{T}
 use lib.IntN.{ℤ, pos, negsuc}
-use lib.Signed.{mag, leZ, ltZ, _≤ℤ_, _<ℤ_}
+use lib.Signed.{mag, leZ, _≤ℤ_}
 use borrow.Author.Tests.{lt-ltb, le-ltb}
 use Rattle.chain.specs.Calls.{less}
 
@@ -26,18 +26,10 @@ less-mag limit figure bound l f = go (decLe figure limit)
     go (yes h) = subst (λ (z : ℤ). mag z < bound) (sym (less-kept limit figure h)) (omega arith)
     go (no h) = subst (λ (z : ℤ). mag z < bound) (sym (less-over limit figure (omega arith))) (omega arith)
 
--- The sign tells whether the figure is within the limit.
-module _ (limit figure : ℕ) where
-  pub kept-within : pos 0 ≤ℤ less limit figure → figure ≤ limit
-  kept-within kept = go (decLe figure limit)
-    where
-      go : Dec (figure ≤ limit) → figure ≤ limit
-      go (yes h) = h
-      go (no h) = absurd (subst (λ (z : ℤ). T (leZ (pos 0) z)) (less-over limit figure (omega arith)) (kept .le))
-
-  pub below-over : less limit figure <ℤ pos 0 → limit < figure
-  below-over below = go (decLe figure limit)
-    where
-      go : Dec (figure ≤ limit) → limit < figure
-      go (yes h) = absurd (omega (arith, ltb→lt (limit - figure) 0 (subst (λ (z : ℤ). T (ltZ z (pos 0))) (less-kept limit figure h) (below .lt))))
-      go (no h) = omega arith
+-- A difference that is not below zero tells that the figure is within the limit.
+pub kept-within : (limit figure : ℕ) → pos 0 ≤ℤ less limit figure → figure ≤ limit
+kept-within limit figure kept = go (decLe figure limit)
+  where
+    go : Dec (figure ≤ limit) → figure ≤ limit
+    go (yes h) = h
+    go (no h) = absurd (subst (λ (z : ℤ). T (leZ (pos 0) z)) (less-over limit figure (omega arith)) (kept .le))

@@ -10,15 +10,15 @@ use Rattle.schedule.specs.declared.answer.Totals.{Totals}
 use Rattle.schedule.specs.declared.answer.Size.{Size}
 use Rattle.schedule.specs.Calls.{sizesOf, responsesOf}
 use Rattle.schedule.specs.NumberLaws.{sizes-numbered, responses-numbered}
-use Rattle.chain.specs.Calls.{delayAt, figureOf, quickBound, less, noRelease, summaryOf, mostLimit, delayOf, worstOf, boundOf, marginOf, figuresOf}
+use Rattle.chain.specs.Calls.{delayAt, figureOf, quickBound, fromFlag, less, noRelease, summaryOf, mostLimit, delayOf, samplingOf, boundOf, marginOf, figuresOf}
 
 module _ (s : Sheet) (room : ℕ) where
   filled-numbered : {A : Type 0} (x : Totals → A) → Numbered 2 15 (after (responsesOf s room) (λ totals. given (x totals)))
   filled-numbered x = after-numbered (responses-numbered s room) (λ totals. given-numbered (x totals))
 
-  pub worst-numbered : Numbered 2 15 (worstOf s room)
-  unfolding worstOf
-  worst-numbered = filled-numbered (λ totals. figureOf (tasksOf s) (chainOf s))
+  pub sampling-numbered : Numbered 2 15 (samplingOf s room)
+  unfolding samplingOf
+  sampling-numbered = filled-numbered (λ totals. figureOf (tasksOf s) (chainOf s))
 
   pub bound-numbered : Numbered 2 15 (boundOf s room)
   unfolding boundOf
@@ -41,4 +41,4 @@ module _ (s : Sheet) (room : ℕ) where
   unfolding marginOf
   margin-numbered limit =
       sized-numbered (λ size. also-numbered (when-numbered (ltb mostLimit limit) 13 (omega arith) (omega arith))
-      (after-numbered worst-numbered (λ figure. given-numbered (less limit (figure .ticks)))))
+      (after-numbered sampling-numbered (λ figure. given-numbered (less limit (fromFlag (tasksOf s) (chainOf s) (figure .ticks))))))

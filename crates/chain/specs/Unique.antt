@@ -7,8 +7,8 @@ use Rattle.answers.specs.declared.Refusal.{Refusal}
 use Rattle.answers.specs.AnswerLaws.{refused-given, refusal-unique}
 use Rattle.chain.specs.declared.answer.Delay.{Delay}
 use Rattle.chain.specs.declared.answer.Delay.the-variants.{Ticks as DelayTicks, No as NoDelay}
-use Rattle.chain.specs.declared.answer.Worst.{Worst}
-use Rattle.chain.specs.declared.answer.Worst.the-variants.{Is, No as NoWorst}
+use Rattle.chain.specs.declared.answer.Sampling.{Sampling}
+use Rattle.chain.specs.declared.answer.Sampling.the-variants.{Is, No as NoSampling}
 use Rattle.chain.specs.declared.answer.Bound.{Bound}
 use Rattle.chain.specs.declared.answer.Bound.the-variants.{Ticks as BoundTicks, No as NoBound}
 use Rattle.chain.specs.declared.answer.Margin.{Margin}
@@ -16,8 +16,8 @@ use Rattle.chain.specs.declared.answer.Margin.the-variants.{Ticks as Mar
 use Rattle.chain.specs.declared.answer.Figures.{Figures}
 use Rattle.chain.specs.declared.answer.Figures.the-variants.{Of, No as NoFigures}
 use Rattle.chain.specs.declared.answer.TaskFigures.{TaskFigures}
-use Rattle.chain.specs.Calls.{defaultLimit, toldDelay, toldWorst, toldBound, toldMargin, toldFigures}
-use Rattle.chain.specs.Promises.{DelayPromise, WorstPromise, BoundPromise, MarginPromise, DefaultMarginPromise, FiguresPromise, DelayRefusalPromise, WorstRefusalPromise, BoundRefusalPromise, MarginRefusalPromise, FiguresRefusalPromise}
+use Rattle.chain.specs.Calls.{defaultLimit, toldDelay, toldSampling, toldBound, toldMargin, toldFigures}
+use Rattle.chain.specs.Promises.{DelayPromise, SamplingPromise, BoundPromise, MarginPromise, DefaultMarginPromise, FiguresPromise, DelayRefusalPromise, SamplingRefusalPromise, BoundRefusalPromise, MarginRefusalPromise, FiguresRefusalPromise}
 
 -- Document 01's answer tells the case of the enum.
 
@@ -27,11 +27,11 @@ delay-told (DelayTicks m) (NoDelay q) e = refused-given (sym e)
 delay-told (NoDelay r) (DelayTicks n) e = refused-given e
 delay-told (NoDelay r) (NoDelay q) e = ap NoDelay (refusal-unique r q e)
 
-worst-told : (x y : Worst) → toldWorst x ≡ toldWorst y → x ≡ y
-worst-told (Is f) (Is g) e = cc
-worst-told (Is f) (NoWorst q) e = refused-given (sym e)
-worst-told (NoWorst r) (Is g) e = refused-given e
-worst-told (NoWorst r) (NoWorst q) e = ap NoWorst (refusal-unique r q e)
+sampling-told : (x y : Sampling) → toldSampling x ≡ toldSampling y → x ≡ y
+sampling-told (Is f) (Is g) e = cc
+sampling-told (Is f) (NoSampling q) e = refused-given (sym e)
+sampling-told (NoSampling r) (Is g) e = refused-given e
+sampling-told (NoSampling r) (NoSampling q) e = ap NoSampling (refusal-unique r q e)
 
 bound-told : (x y : Bound) → toldBound x ≡ toldBound y → x ≡ y
 bound-told (BoundTicks m) (BoundTicks n) e = cc
@@ -57,8 +57,8 @@ module _ (s : Sheet) (old table table′ : List ℕ) where
   pub delay-unique : (release : ℕ) (x y : Delay) → DelayPromise s release old x table → DelayPromise s release old y table′ → (x ≡ y) × (table ≡ table′)
   delay-unique release x y p q = (delay-told x y (p .0 ∙ sym (q .0)), p .1 ∙ sym (q .1))
 
-  pub worst-unique : (x y : Worst) → WorstPromise s old x table → WorstPromise s old y table′ → (x ≡ y) × (table ≡ table′)
-  worst-unique x y p q = (worst-told x y (p .0 ∙ sym (q .0)), p .1 ∙ sym (q .1))
+  pub sampling-unique : (x y : Sampling) → SamplingPromise s old x table → SamplingPromise s old y table′ → (x ≡ y) × (table ≡ table′)
+  sampling-unique x y p q = (sampling-told x y (p .0 ∙ sym (q .0)), p .1 ∙ sym (q .1))
 
   pub bound-unique : (x y : Bound) → BoundPromise s old x table → BoundPromise s old y table′ → (x ≡ y) × (table ≡ table′)
   bound-unique x y p q = (bound-told x y (p .0 ∙ sym (q .0)), p .1 ∙ sym (q .1))
@@ -78,8 +78,8 @@ module _ (s : Sheet) (old table table′ : List ℕ) where
 pub delay-refusal-unique : (answer : Delay) (x y : Refusal) → DelayRefusalPromise answer x → DelayRefusalPromise answer y → x ≡ y
 delay-refusal-unique answer x y p q = p ∙ sym q
 
-pub worst-refusal-unique : (answer : Worst) (x y : Refusal) → WorstRefusalPromise answer x → WorstRefusalPromise answer y → x ≡ y
-worst-refusal-unique answer x y p q = p ∙ sym q
+pub sampling-refusal-unique : (answer : Sampling) (x y : Refusal) → SamplingRefusalPromise answer x → SamplingRefusalPromise answer y → x ≡ y
+sampling-refusal-unique answer x y p q = p ∙ sym q
 
 pub bound-refusal-unique : (answer : Bound) (x y : Refusal) → BoundRefusalPromise answer x → BoundRefusalPromise answer y → x ≡ y
 bound-refusal-unique answer x y p q = p ∙ sym q

@@ -14,7 +14,7 @@ pub struct Figure {
     pub release: u32,
 }
 
-pub enum Worst {
+pub enum Sampling {
     Is(Figure),
     No(Refusal),
 }
@@ -24,16 +24,19 @@ pub enum Bound {
     No(Refusal),
 }
 
-// A limit less the worst figure.
+// A limit less the worst from a flag on.
 pub enum Margin {
     Ticks(i32),
     No(Refusal),
 }
 
-// What a report says: H, J and the idle ticks, the worst figure, the quick bound, and the margin under the default limit.
+// What a report says: H, J and the idle ticks; the sampling figure and its bound, which count from a release; and the worst, the
+// bound and the margin under the default limit, which count from a flag.
 pub struct Summary {
     pub totals: Totals,
-    pub worst: Figure,
+    pub sampling: Figure,
+    pub sampling_bound: u32,
+    pub worst: u32,
     pub bound: u32,
     pub margin: i32,
 }

@@ -1,6 +1,6 @@
-// The chain: its delay at a release, its worst figure, its quick bound and its margin, or the first refusal. Each call works the
-// responses out afresh and leaves them in the lent table, from which a walk along the chain reads them. What is answered and left
-// in the table is defined in specs/Calls.antt; what that says of every schedule stands in specs/Results.antt.
+// The chain: its delay at a release, its sampling figure and quick bound, and from a flag on its worst, bound and margin; or the first
+// refusal. Each call works the responses out afresh and leaves them in the lent table, from which a walk along the chain reads them.
+// What is answered and left in the table is defined in specs/Calls.antt; what that says of every schedule stands in specs/Results.antt.
 mod answer;
 
 pub use answer::Bound;
@@ -9,9 +9,9 @@ pub use answer::Figure;
 pub use answer::Figures;
 use answer::HandOver;
 pub use answer::Margin;
+pub use answer::Sampling;
 pub use answer::Summary;
 pub use answer::TaskFigures;
-pub use answer::Worst;
 use answers::Refusal;
 use schedule::Responses;
 use schedule::Sizes;
@@ -24,10 +24,10 @@ ghost use Rattle.theory.specs.Model.Schedule.{period, release};
 ghost use Rattle.sheet.specs.Sound.{Sound};
 ghost use Rattle.sheet.specs.Tasks.{tasksOf, chainOf, firstOf};
 ghost use Rattle.schedule.specs.Calls.{mostTicks};
-ghost use Rattle.chain.specs.Calls.{delayAt, figureOf, quickBound, less, mostLimit};
-ghost use Rattle.chain.specs.Promises.{DelayPromise, WorstPromise, BoundPromise, MarginPromise, DefaultMarginPromise, FiguresPromise, DelayRefusalPromise, WorstRefusalPromise, BoundRefusalPromise, MarginRefusalPromise, FiguresRefusalPromise};
+ghost use Rattle.chain.specs.Calls.{delayAt, figureOf, quickBound, fromFlag, less, mostLimit};
+ghost use Rattle.chain.specs.Promises.{DelayPromise, SamplingPromise, BoundPromise, MarginPromise, DefaultMarginPromise, FiguresPromise, DelayRefusalPromise, SamplingRefusalPromise, BoundRefusalPromise, MarginRefusalPromise, FiguresRefusalPromise};
 ghost use Rattle.schedule.specs.Taken.{Taken, Holds};
-ghost use Rattle.chain.specs.Conditions.{mostWait, mostFigure, mostRelease, periodIn, countIn, rowsIn, greatestIn, delayIn, boundIn, pairIn, onward, ahead, HandedOver, FirstHandedOver, RowIn, TaskIn, ChainIn, Greatest, Planned};
+ghost use Rattle.chain.specs.Conditions.{mostPeriod, mostWait, mostFigure, mostWorst, mostRelease, periodIn, countIn, rowsIn, greatestIn, delayIn, boundIn, pairIn, onward, ahead, HandedOver, FirstHandedOver, RowIn, TaskIn, ChainIn, Greatest, Planned};
 
 // "margin limit 0 to 4,000,000"
 const MOST_LIMIT: u32 = 4000000;
@@ -131,7 +131,7 @@ fn first_hand_over(chain: &[u8], k: u32, plan: &[u32; 64], table: &[u32]) -> Han
 
 // The greatest delay over the first task's jobs, and the smallest release that gives it. Paths that go to one job
 // end together, so of these only the first is followed.
-fn worst_along(chain: &[u8], plan: &[u32; 64], table: &[u32]) -> Figure
+fn sampling_along(chain: &[u8], plan: &[u32; 64], table: &[u32]) -> Figure
     requires { ⌜ ChainIn (now plan) (now table) (now chain) ⌝ }
     requires { ⌜ (length (now chain) ≤ 16) × (countIn (now plan) (firstOf (now chain)) * periodIn (now plan) (firstOf (now chain)) ≤ mostTicks) ⌝ }
     ensures { λ r. ⌜ Greatest (countIn (now (plan .entry)) (firstOf (now (chain .entry)))) (periodIn (now (plan .entry)) (firstOf (now (chain .entry)))) (delayIn (now (plan .entry)) (now (table .entry)) (now (chain .entry))) r ⌝ }
@@ -212,8 +212,8 @@ fn delay_in(s: Sheet, h: u32, k: u32, table: &[u32]) -> u32
     walk(&chain[..m], k, &plan, table)
 }
 
-// The worst figure of the sheet's chain.
-fn worst_in(s: Sheet, h: u32, table: &[u32]) -> Figure
+// The sampling figure of the sheet's chain.
+fn sampling_in(s: Sheet, h: u32, table: &[u32]) -> Figure
     requires { ⌜ Sound s × Taken (tasksOf s) ⌝ }
     requires { ⌜ h ≡ hyperperiod (tasksOf s) ⌝ }
     requires { ⌜ Holds (tasksOf s) (now table) ⌝ }
@@ -222,7 +222,7 @@ fn worst_in(s: Sheet, h: u32, table: &[u32]) -> Figure
     let plan = plan_of(s, h);
     let chain = s.chain;
     let m = s.length as usize;
-    worst_along(&chain[..m], &plan, table)
+    sampling_along(&chain[..m], &plan, table)
 }
 
 // The quick bound of the sheet's chain.
@@ -241,16 +241,26 @@ fn bound_in(s: Sheet, h: u32, table: &[u32]) -> u32
 // T of the chain's first task.
 fn first_period(s: Sheet) -> u32
     requires { ⌜ Sound s ⌝ }
-    ensures { λ r. ⌜ (r ≡ period (tasksOf s) (firstOf (chainOf s))) × (0 < r) ⌝ }
+    ensures { λ r. ⌜ (r ≡ period (tasksOf s) (firstOf (chainOf s))) × (0 < r) × (r ≤ mostPeriod) ⌝ }
 {
     let chain = s.chain;
     let p = chain[0] as usize;
     s.tasks[p].period
 }
 
+// What counts from a release of the chain's first task, counted from a flag: "add T − 1 of the first task".
+fn from_flag(s: Sheet, ticks: u32) -> u32
+    requires { ⌜ Sound s ⌝ }
+    requires { ⌜ ticks ≤ mostFigure ⌝ }
+    ensures { λ r. ⌜ r ≡ fromFlag (tasksOf s) (chainOf s) ticks ⌝ }
+{
+    let period = first_period(s);
+    ticks + (period - 1)
+}
+
 // Both numbers are "cast to i32 without loss and subtracted".
 fn less_of(limit: u32, figure: u32) -> i32
-    requires { ⌜ (limit ≤ mostLimit) × (figure ≤ mostFigure) ⌝ }
+    requires { ⌜ (limit ≤ mostLimit) × (figure ≤ mostWorst) ⌝ }
     ensures { λ r. ⌜ r ≡ less limit figure ⌝ }
 {
     limit as i32 - figure as i32
@@ -266,10 +276,10 @@ pub fn delay_refusal(d: Delay) -> Refusal
     r
 }
 
-pub fn worst_refusal(w: Worst) -> Refusal
-    ensures { λ r. ⌜ WorstRefusalPromise w r ⌝ }
+pub fn sampling_refusal(w: Sampling) -> Refusal
+    ensures { λ r. ⌜ SamplingRefusalPromise w r ⌝ }
 {
-    let Worst::No(r) = w else {
+    let Sampling::No(r) = w else {
         return Refusal::Number(0);
     };
     r
@@ -325,14 +335,14 @@ pub fn delay(s: Sheet, release: u32, table: &mut [u32]) -> Delay
 }
 
 // The greatest delay of the sheet's chain, and the smallest release that gives it.
-pub fn worst(s: Sheet, table: &mut [u32]) -> Worst
-    ensures { λ r. ⌜ WorstPromise s (now (table .entry)) r (now (table .exit)) ⌝ }
+pub fn sampling(s: Sheet, table: &mut [u32]) -> Sampling
+    ensures { λ r. ⌜ SamplingPromise s (now (table .entry)) r (now (table .exit)) ⌝ }
 {
     let filled = schedule::responses(s, &mut *table);
     let Responses::Table(totals) = filled else {
-        return Worst::No(schedule::responses_refusal(filled));
+        return Sampling::No(schedule::responses_refusal(filled));
     };
-    Worst::Is(worst_in(s, totals.hyperperiod, &*table))
+    Sampling::Is(sampling_in(s, totals.hyperperiod, &*table))
 }
 
 // The quick bound of the sheet's chain.
@@ -346,7 +356,7 @@ pub fn bound(s: Sheet, table: &mut [u32]) -> Bound
     Bound::Ticks(bound_in(s, totals.hyperperiod, &*table))
 }
 
-// A limit less the worst figure: "the sign tells whether the limit is kept".
+// A limit less the worst from a flag on: "the sign tells whether the limit is kept".
 pub fn margin(s: Sheet, limit: u32, table: &mut [u32]) -> Margin
     ensures { λ r. ⌜ MarginPromise s limit (now (table .entry)) r (now (table .exit)) ⌝ }
 {
@@ -357,11 +367,12 @@ pub fn margin(s: Sheet, limit: u32, table: &mut [u32]) -> Margin
         };
         return Margin::No(Refusal::Number(13));
     }
-    let w = worst(s, &mut *table);
-    let Worst::Is(figure) = w else {
-        return Margin::No(worst_refusal(w));
+    let w = sampling(s, &mut *table);
+    let Sampling::Is(figure) = w else {
+        return Margin::No(sampling_refusal(w));
     };
-    Margin::Ticks(less_of(limit, figure.ticks))
+    let worst = from_flag(s, figure.ticks);
+    Margin::Ticks(less_of(limit, worst))
 }
 
 // "The call without a limit uses 1,000 ticks."
@@ -386,11 +397,15 @@ pub fn figures(s: Sheet, table: &mut [u32]) -> TaskFigures
             greatest,
         };
     };
-    let worst = worst_in(s, totals.hyperperiod, &*table);
-    let bound = bound_in(s, totals.hyperperiod, &*table);
-    let margin = less_of(DEFAULT_LIMIT, worst.ticks);
+    let sampling = sampling_in(s, totals.hyperperiod, &*table);
+    let sampling_bound = bound_in(s, totals.hyperperiod, &*table);
+    let worst = from_flag(s, sampling.ticks);
+    let bound = from_flag(s, sampling_bound);
+    let margin = less_of(DEFAULT_LIMIT, worst);
     let summary = Summary {
         totals,
+        sampling,
+        sampling_bound,
         worst,
         bound,
         margin,

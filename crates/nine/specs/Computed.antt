@@ -17,8 +17,8 @@ use Rattle.theory.specs.Model.Schedule.{period, rank, Proper}
 use Rattle.theory.specs.Model.Responses.{response, hyperperiod, jobs, allJobs, taskResponse}
 use Rattle.theory.specs.Model.Greatest.{outranking, greatest}
 use Rattle.theory.specs.Analysis.Clearing.{clearing, response-clearing, clearing-late, late-clearing}
-use Rattle.theory.specs.Analysis.Evaluation.{worst-clearing, worst-release-clearing, bound-clearing}
-use Rattle.theory.specs.Model.Chain.{Chain, worst, worstRelease, bound}
+use Rattle.theory.specs.Analysis.Evaluation.{sampling-clearing, sampling-release-clearing, bound-clearing}
+use Rattle.theory.specs.Model.Chain.{Chain, sampling, samplingRelease, bound}
 use Rattle.sheet.specs.declared.Sheet.{Sheet}
 use Rattle.answers.specs.Answers.{Answer, given, refused, Judgement, fine, when, after, also}
 use Rattle.sheet.specs.Calls.{judgeOf}
@@ -27,7 +27,7 @@ use Rattle.sheet.specs.Tasks.{tasksOf, chainOf, firstOf, restOf}
 use Rattle.sheet.specs.TaskLaws.{sound-proper, chain-known}
 use Rattle.schedule.specs.Calls.{mostTicks, mostJobs, lateTask, lateGreatest, lateness, sizesOf, responsesOf, rows}
 use Rattle.schedule.specs.Lateness.{job-late, late-job}
-use Rattle.chain.specs.Calls.{figureOf, quickBound, worstOf, boundOf}
+use Rattle.chain.specs.Calls.{figureOf, quickBound, samplingOf, boundOf}
 use Rattle.nine.specs.Outcome.{Figures, outcomeOf}
 
 -- ---- by clearing times
@@ -43,8 +43,8 @@ rowsBy ts (suc n) = rowsBy ts n ++ listOf (jobs ts n) (clearing ts n)
 abbrev figuresBy : List Task → ℕ → List ℕ → Figures
 figuresBy ts p rest = record {
   table = rowsBy ts (length ts);
-  worst = worst ts (clearing ts) p rest;
-  release = worstRelease ts (clearing ts) p rest;
+  sampling = sampling ts (clearing ts) p rest;
+  release = samplingRelease ts (clearing ts) p rest;
   bound = bound ts (λ i. maximum (jobs ts i) (clearing ts i)) p rest;
 }
 
@@ -86,12 +86,12 @@ module _ {ts : List Task} (good : Proper ts) where
   greatest-cleared (suc n) h = ap₂ (λ b x. cond b (outranking (rank ts) n x) x) (late-cleared n (omega arith)) (greatest-cleared n (omega arith))
 
   figures-cleared : (p : ℕ) (rest : List ℕ) → Chain ts p rest
-      → record { table = rows ts (length ts); worst = worst ts (response ts) p rest; release = worstRelease ts (response ts) p rest; bound = bound ts (taskResponse ts) p rest } ≡ figuresBy ts p rest
+      → record { table = rows ts (length ts); sampling = sampling ts (response ts) p rest; release = samplingRelease ts (response ts) p rest; bound = bound ts (taskResponse ts) p rest } ≡ figuresBy ts p rest
   figures-cleared p rest chain =
-      ap₂ (λ t w. record { table = t; worst = w; release = worstRelease ts (response ts) p rest; bound = bound ts (taskResponse ts) p rest })
-      (rows-cleared (length ts) (omega arith)) (worst-clearing good p rest chain)
-      ∙ ap₂ (λ r b. record { table = rowsBy ts (length ts); worst = worst ts (clearing ts) p rest; release = r; bound = b })
-      (worst-release-clearing good p rest chain) (bound-clearing good p rest chain)
+      ap₂ (λ t w. record { table = t; sampling = w; release = samplingRelease ts (response ts) p rest; bound = bound ts (taskResponse ts) p rest })
+      (rows-cleared (length ts) (omega arith)) (sampling-clearing good p rest chain)
+      ∙ ap₂ (λ r b. record { table = rowsBy ts (length ts); sampling = sampling ts (clearing ts) p rest; release = r; bound = b })
+      (sampling-release-clearing good p rest chain) (bound-clearing good p rest chain)
 
 -- ---- and so are the outcomes
 
@@ -124,7 +124,7 @@ module _ (s : Sheet) where
   figures : Figures
   figures = record {
     table = rows ts (length ts);
-    worst = figureOf ts (chainOf s) .ticks;
+    sampling = figureOf ts (chainOf s) .ticks;
     release = figureOf ts (chainOf s) .release;
     bound = quickBound ts (chainOf s);
   }
@@ -136,9 +136,9 @@ module _ (s : Sheet) where
       (also (when (ltb mostJobs (allJobs ts)) 11)
       (also (when (ltb mostJobs (allJobs ts)) 14)
       (also late (given figures)))))
-  unfolding outcomeOf worstOf boundOf responsesOf sizesOf figures
+  unfolding outcomeOf samplingOf boundOf responsesOf sizesOf figures
   outcome-judged =
-      once (responsesOf s mostJobs) (figureOf ts (chainOf s)) (quickBound ts (chainOf s)) (λ f q. record { table = rows ts (length ts); worst = f .ticks; release = f .release; bound = q })
+      once (responsesOf s mostJobs) (figureOf ts (chainOf s)) (quickBound ts (chainOf s)) (λ f q. record { table = rows ts (length ts); sampling = f .ticks; release = f .release; bound = q })
       ∙ also-into (judgeOf s) _ _ _
       ∙ ap (also (judgeOf s)) (also-into (when (ltb mostTicks (hyperperiod ts)) 10) _ _ _
       ∙ ap (also (when (ltb mostTicks (hyperperiod ts)) 10)) (also-into (when (ltb mostJobs (allJobs ts)) 11) _ _ _

@@ -11,7 +11,7 @@ use Rattle.arith.specs.Ranges.{sum, maximum, least}
 use Rattle.theory.specs.Model.Responses.{hyperperiod, allJobs}
 use Rattle.theory.specs.Model.Greatest.{greatest}
 use Rattle.theory.specs.Analysis.Clearing.{clearing}
-use Rattle.theory.specs.Model.Chain.{worst, worstRelease, bound}
+use Rattle.theory.specs.Model.Chain.{sampling, samplingRelease, bound}
 use Rattle.sheet.specs.declared.Sheet.{Sheet}
 use Rattle.answers.specs.Answers.{Answer, given, refused, first}
 use Rattle.sheet.specs.Fields.{taskFields, entryFields, place, among}
@@ -40,7 +40,7 @@ pub record Sample : Type 0 where
 abbrev taken : List Task → List ℕ → List ℕ → ℕ → ℕ → ℕ → Sample
 taken ts chain table figure release quick = record {
   on = sheet ts chain;
-  says = given (record { table = table; worst = figure; release = release; bound = quick });
+  says = given (record { table = table; sampling = figure; release = release; bound = quick });
 }
 
 abbrev not-taken : List Task → ℕ → List ℕ → Sample
@@ -76,5 +76,5 @@ rows-hold (r ∷ rs) e = (outcome-computed (r .on) ∙ cc, rows-hold rs cc)
 
 -- Of each of the nine sheets the definitions say what document 01 says.
 pub nine : Every (λ r. outcomeOf (r .on) ≡ r .says) nineSheets
-unfolding computedOf judgeOf first taskFields entryFields place among listOf tasksOf hyperperiod lcm gcd allJobs sum greatest maximum least clearing rowsBy worst worstRelease bound up
+unfolding computedOf judgeOf first taskFields entryFields place among listOf tasksOf hyperperiod lcm gcd allJobs sum greatest maximum least clearing rowsBy sampling samplingRelease bound up
 nine = rows-hold nineSheets refl

@@ -22,9 +22,9 @@ use chain::Bound;
 use chain::Delay;
 use chain::Figures;
 use chain::Margin;
+use chain::Sampling;
 use chain::Summary;
 use chain::TaskFigures;
-use chain::Worst;
 use request::Request;
 use request::fill;
 use request::request_in;
@@ -86,10 +86,10 @@ fn put_delay(out: &mut [u8], d: Delay) -> usize {
     }
 }
 
-fn put_worst(out: &mut [u8], w: Worst) -> usize {
+fn put_sampling(out: &mut [u8], w: Sampling) -> usize {
     match w {
-        Worst::Is(f) => two(out, f.ticks, f.release),
-        Worst::No(r) => refused(out, r),
+        Sampling::Is(f) => two(out, f.ticks, f.release),
+        Sampling::No(r) => refused(out, r),
     }
 }
 
@@ -113,8 +113,13 @@ fn put_margin(out: &mut [u8], m: Margin) -> usize {
 fn put_summary(out: &mut [u8], summary: Summary) -> usize {
     let totals = summary.totals;
     let at = three(&mut *out, totals.hyperperiod, totals.jobs, totals.idle);
-    let worst = summary.worst;
-    let next = put_words(&mut *out, at, &[worst.ticks, worst.release, summary.bound]);
+    let sampling = summary.sampling;
+    let first = put_words(
+        &mut *out,
+        at,
+        &[sampling.ticks, sampling.release, summary.sampling_bound],
+    );
+    let next = put_words(&mut *out, first, &[summary.worst, summary.bound]);
     put_signed(out, next, summary.margin)
 }
 
@@ -190,7 +195,7 @@ fn of_sheet(
         12 => put_responses(out, schedule::responses(s, table)),
         13 => put_task_responses(out, schedule::task_responses(s, table)),
         14 => put_delay(out, chain::delay(s, number, table)),
-        15 => put_worst(out, chain::worst(s, table)),
+        15 => put_sampling(out, chain::sampling(s, table)),
         16 => put_bound(out, chain::bound(s, table)),
         17 => put_margin(out, chain::margin(s, number, table)),
         18 => put_margin(out, chain::default_margin(s, table)),

@@ -1,7 +1,6 @@
 // The report of one timing sheet, read from standard input: document 01's lines, or the refusal.
 use answers::Refusal;
 use answers::Verdict;
-use chain::Figure;
 use chain::Figures;
 use chain::Summary;
 use schedule::Totals;
@@ -86,9 +85,9 @@ fn print_chain(s: Sheet) {
 }
 
 // "the worst figure and its smallest release; the bound; the margin under the default limit"
-fn print_figures(worst: Figure, bound: u32, margin: i32) {
-    print_number(b"worst ", worst.ticks);
-    print_number(b" from ", worst.release);
+fn print_figures(worst: u32, release: u32, bound: u32, margin: i32) {
+    print_number(b"worst ", worst);
+    print_number(b" from ", release);
     print_number(b"\nbound ", bound);
     print_signed(b"\nmargin ", margin);
     io::write_all(1, b"\n");
@@ -98,7 +97,8 @@ fn print_summary(s: Sheet, summary: Summary, greatest: [u32; 16]) {
     print_totals(s, summary.totals);
     print_tasks(s, greatest);
     print_chain(s);
-    print_figures(summary.worst, summary.bound, summary.margin);
+    let release = summary.sampling.release;
+    print_figures(summary.worst, release, summary.bound, summary.margin);
 }
 
 fn refuse_sheet(v: Verdict) {

@@ -18,5 +18,7 @@ pub mod WalkPaths
 pub mod Paths
 -- The laws of the readings that it carries.
 pub mod ReadingLaws
+-- The laws of a flag.
+pub mod FlagLaws
 -- Figures of given sheets by evaluation.
 pub mod Evaluation

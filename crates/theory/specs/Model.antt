@@ -4,3 +4,4 @@ pub mod Simulate
 pub mod Responses
 pub mod Chain
 pub mod Readings
+pub mod Flag

@@ -2,3 +2,4 @@ pub mod Examples
 pub mod Quartet
 pub mod Overtaken
 pub mod Demand3
+pub mod Flags

@@ -68,6 +68,9 @@ struct Met {
     shapes: BTreeSet<(u8, u8)>,
     greatest_hyperperiod: u64,
     most_jobs: u64,
+    /// And how many have a first task with the least and with the greatest period.
+    least_first: u64,
+    greatest_first: u64,
 }
 
 impl Met {
@@ -87,6 +90,9 @@ impl Met {
             let z = sizes(&s).expect("a sheet that is taken has sizes");
             self.greatest_hyperperiod += u64::from(z.hyperperiod == 1_000_000);
             self.most_jobs += u64::from(z.jobs == 8_192);
+            let first = z.tasks[s.chain[0] as usize].period;
+            self.least_first += u64::from(first == 1);
+            self.greatest_first += u64::from(first == 100_000);
         }
     }
 
@@ -114,6 +120,7 @@ impl Met {
             self.greatest_hyperperiod,
             self.most_jobs
         );
+        println!("  first tasks of period 1 taken {} times, of 100,000 {} times", self.least_first, self.greatest_first);
     }
 
     /// Everything that the calls can answer, and that was not met.
@@ -130,7 +137,13 @@ impl Met {
         missing.extend(few.map(|n| format!("{n} at {PLACES} bits")));
         let shapes = (1..=16).flat_map(|n| (1..=n).map(move |m| (n, m))).filter(|shape| !self.shapes.contains(shape));
         missing.extend(shapes.map(|(n, m)| format!("{n} tasks with a chain of {m}")));
-        let once = [(self.over, "a multiple over its limit"), (self.greatest_hyperperiod, "H 1,000,000"), (self.most_jobs, "J 8,192")];
+        let once = [
+            (self.over, "a multiple over its limit"),
+            (self.greatest_hyperperiod, "H 1,000,000"),
+            (self.most_jobs, "J 8,192"),
+            (self.least_first, "a first task of period 1"),
+            (self.greatest_first, "a first task of period 100,000"),
+        ];
         missing.extend(once.into_iter().filter(|(times, _)| *times == 0).map(|(_, what)| what.into()));
         missing
     }
@@ -168,13 +181,15 @@ fn claim(probe: &mut Probe, s: &Memory) -> Option<Claim> {
         let q = Request { call, numbers: [0; 3], sheet: Handed::Memory(*s), lent };
         words(&asked(probe, &q, || ()).0)
     };
-    match (&ask(Call::Worst)[..], &ask(Call::Bound)[..]) {
-        ([_, 0, 0, figure, release, ..], [_, 0, 0, bound, ..]) => Some(Claim { figure: *figure, release: *release, bound: *bound }),
+    match (&ask(Call::Sampling)[..], &ask(Call::Bound)[..], &ask(Call::Figures)[..]) {
+        (&[_, 0, 0, sampling, release, ..], &[_, 0, 0, sampling_bound, ..], &[_, 0, 0, _, _, _, _, _, _, worst, bound, ..]) => {
+            Some(Claim { sampling, release, sampling_bound, worst, bound })
+        }
         _ => None,
     }
 }
 
-/// Claims are the probe's own; each is tried on schedules of the model. Answers the sheets tried and the readings followed.
+/// Claims are the probe's own; each is tried on schedules of the model. Answers the sheets tried, and what was followed.
 fn try_claims(probe: &mut Probe, run: &Run) -> (u64, Followed) {
     let mut random = Random::new(!run.seed);
     let (mut tried, mut sum) = (0, Followed::default());
@@ -209,7 +224,8 @@ fn main() {
         exit(1);
     }
     println!("differential: seed {}, {} requests as the model says", run.seed, run.requests);
-    let Followed { paths, reached, rising } = followed;
-    println!("differential: {tried} accepted sheets, {paths} readings followed, none later than its figure, {reached} as late");
-    println!("differential: ranks rise along {rising} of the chains, and full budgets reach the figure of each");
+    let Followed { paths, reached, rising, flags, latest } = followed;
+    println!("differential: {tried} accepted sheets, {paths} readings followed, none later than its sampling figure, {reached} as late");
+    println!("differential: ranks rise along {rising} of the chains, and full budgets reach the sampling figure of each");
+    println!("differential: {flags} flags raised, none stamped later than the worst after it, {latest} as late");
 }

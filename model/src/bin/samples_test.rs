@@ -26,6 +26,7 @@ fn main() {
         ("long-hyperperiod", encoded(&pair(1_000, 999), &[0])),
         ("many-jobs", encoded(&pair(2, 16_382), &[0])),
         ("sixteen", encoded(&tasks(&sixteen), &full)),
+        ("every-tick", encoded(&tasks(&[(1, 1, 1)]), &[0])),
         ("slow", encoded(&tasks(&[(2_000, 1_500, 2), (100_000, 20_000, 1)]), &[1, 0])),
         ("refused-1-cut-short", encoded(&radio, &[0, 1, 2])[..9].to_vec()),
         ("refused-1-empty", vec![]),

@@ -24,7 +24,7 @@ returns-3 c =
     let below = c .before .before .before in
     let asked = below .before .before in
     let a = asked .before .before .before .args in
-    rw (asked .enum-told2 .given .1) (told-left figureNumbers (a .s) (a .table .now) (c .worst-reply .ensures) (below .worst .ensures .0) (below .worst .ensures .1))
+    rw (asked .enum-told2 .given .1) (told-left figureNumbers (a .s) (a .table .now) (c .sampling-reply .ensures) (below .sampling .ensures .0) (below .sampling .ensures .1))
 
 returns-4 : tie.Need-returns-4
 returns-4 c =

@@ -7,6 +7,7 @@ use lib.ListN.{length, length-map, set, take}
 use lib.Seq.{sets, length-sets}
 use mir.Syntax.{w64}
 use mir.Facts.{toZ-ofZ}
+use Rattle.bellkettle.specs.Replies.{mostValues}
 use Rattle.bellkettle.specs.ReplyLaws.{sets-take}
 use borrow.Author.Needs.{needs}
 use Rattle.bellkettle.proofs.hand.Statement.{statement}
@@ -42,11 +43,11 @@ loop-again c =
     let start = turn c .before in
     let l = turn c .loop in
     let reply = start .args .t1 in
-    let seven : length (reply .values) ≡ 7 = sym (length-map (reply .values) _) ∙ start .good .0 .1 .1 .1 .1 .0 .1 .0 .1 in (
+    let whole : length (reply .values) ≡ mostValues = sym (length-map (reply .values) _) ∙ start .good .0 .1 .1 .1 .1 .0 .1 .0 .1 in (
       omega arith,
       c .before .put .ensures
           ∙ ap₂ (λ x z. set x (l .i) z) (l .inv .1) (toZ-ofZ {w = w64} (record { sfits = c .before .before .put-arg2 .given }))
-          ∙ sets-take (pos 0) (l .i) (reply .values) (start .args .values .now) (omega (arith, start .pre, seven)),
+          ∙ sets-take (pos 0) (l .i) (reply .values) (start .args .values .now) (omega (arith, start .pre, whole)),
     )
 
 same-length : tie.Need-same-length Inv-loop μ-loop

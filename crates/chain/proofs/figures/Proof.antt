@@ -1,22 +1,27 @@
 -- The table is filled once, and every figure is read from its rows; a refusal on the way is handed up.
 use mathlib.Core.Path.{_≡_, refl, sym, ap, _∙_}
 use native.Mathlib.Omega.{arith}
+use mathlib.Core.List.{List}
+use Prim.Native.Nat.{ℕ, _≤_}
+use lib.IntN.{ℤ}
 use lib.ListN.{length}
 use mir.Syntax.{w32}
 use mir.ValLaws.{toZ-ofZ}
 use borrow.Author.Needs.{needs}
+use Rattle.theory.specs.declared.Task.{Task}
 use Rattle.theory.specs.Model.Responses.{hyperperiod}
 use Rattle.answers.specs.Answers.{given, refusal}
 use Rattle.sheet.specs.Sound.{Sound}
 use Rattle.sheet.specs.Tasks.{tasksOf, chainOf}
+use Rattle.schedule.specs.declared.answer.Totals.{Totals}
 use Rattle.schedule.specs.Calls.{responsesOf, toldTotals}
 use Rattle.schedule.specs.CallLaws.{responses-no}
 use Rattle.schedule.specs.Taken.{Taken, Holds}
-use Rattle.chain.specs.declared.answer.Summary.{Summary}
-use Rattle.chain.specs.Calls.{summaryOf, figuresOf}
-use Rattle.chain.specs.Conditions.{TakenChain}
+use Rattle.chain.specs.declared.answer.Figure.{Figure}
+use Rattle.chain.specs.Calls.{figureOf, quickBound, fromFlag, less, defaultLimit, summaryOf, figuresOf}
+use Rattle.chain.specs.Conditions.{mostFigure, TakenChain}
 use Rattle.chain.specs.CallLaws.{answers-no, answers-given, filled-chain, filled-ready}
-use Rattle.chain.specs.Largest.{worst-most}
+use Rattle.chain.specs.Largest.{sampling-most, quick-most, flag-most}
 use Rattle.chain.proofs.figures.Statement.{statement}
 use Rattle.chain.proofs.figures.Tie as tie
 
@@ -56,33 +61,57 @@ returns c =
     (r .ensures .0 .1) in
     (ended, r .ensures .1)
 
-worst-in-requires : tie.Need-worst-in-requires
-worst-in-requires c κs = ready (c .before .before)
+-- The summary is made of its parts.
+summary-is : (ts : List Task) (chain : List ℕ) (totals : Totals) {figure : Figure} {quick w b : ℕ} {z : ℤ}
+    → figure ≡ figureOf ts chain → quick ≡ quickBound ts chain → w ≡ fromFlag ts chain (figure .ticks) → b ≡ fromFlag ts chain quick → z ≡ less defaultLimit w
+    → summaryOf ts chain totals ≡ record { totals = totals; sampling = figure; «sampling_bound» = quick; worst = w; bound = b; margin = z }
+summary-is ts chain totals f q w b z = rw (z, b, w, q, f) refl
+
+-- Where the sampling figure is known, and the answer before it.
+abbrev sampled : tie.After-bound-in → tie.After-sampling-in
+sampled c = c .before .before
+
+abbrev answered : tie.After-bound-in → tie.After-answer
+answered c = sampled c .before .before .before
+
+sampling-in-requires : tie.Need-sampling-in-requires
+sampling-in-requires c κs = ready (c .before .before)
 
 bound-in-requires : tie.Need-bound-in-requires
 bound-in-requires c κs = ready (c .before .before .before .before)
 
+small : (c : tie.After-bound-in) → sampled c .sampling-in .result .ticks ≤ mostFigure
+small c = omega (arith, ap (λ f. f .ticks) (sampled c .sampling-in .ensures), sampling-most (taken (answered c)))
+
+from-flag-requires : tie.Need-from-flag-requires
+from-flag-requires c κs = (ready (answered c) .0 .0, small c)
+
+from-flag-requires-2 : tie.Need-from-flag-requires-2
+from-flag-requires-2 c κs =
+    let bounded = c .before in (ready (answered bounded) .0 .0, omega (arith, bounded .bound-in .ensures, quick-most (taken (answered bounded))))
+
 less-of-requires : tie.Need-less-of-requires
 less-of-requires c κs =
-    let w = c .before .before in
-    (omega arith, omega (arith, ap (λ f. f .ticks) (w .worst-in .ensures), worst-most (taken (w .before .before .before))))
+    let bounded = c .before .before in
+    (omega arith, omega (arith, c .before .from-flag .ensures, flag-most (taken (answered bounded)) (sampled bounded .sampling-in .result .ticks) (small bounded)))
 
 returns-2 : tie.Need-returns-2
 unfolding figuresOf
 returns-2 c =
-    let w = c .before .before .before in
-    let f = w .before .before .before in
+    let bound = c .before in
+    let worst = bound .before in
+    let bounded = worst .before in
+    let f = answered bounded in
     let a = start f .args in
     let r = done f .task-responses in
     let read = toZ-ofZ w32 (c .less-of .result) (record { sfits = c .less-of .ok }) in
-    let summary : Summary = record { totals = f .answer .given .0 .0; worst = w .worst-in .result; bound = c .before .bound-in .result; margin = c .less-of .result } in
-    let same : summaryOf (tasksOf (a .s)) (chainOf (a .s)) (f .answer .given .0 .0) ≡ summary = rw (c .less-of .ensures, c .before .bound-in .ensures, w .worst-in .ensures) refl in
-    let ended = answers-given (a .s) (a .table .now) _ (filled f) (ap given same)
-    (r .ensures .0 .1) in
+    let same = summary-is (tasksOf (a .s)) (chainOf (a .s)) (f .answer .given .0 .0) (sampled bounded .sampling-in .ensures) (bounded .bound-in .ensures)
+    (worst .from-flag .ensures) (bound .from-flag2 .ensures) (c .less-of .ensures) in
+    let ended = answers-given (a .s) (a .table .now) _ (filled f) (ap given same) (r .ensures .0 .1) in
     rw read (ended, r .ensures .1)
 
 pub figures-spec : {M : Type 1} → statement M
 figures-spec =
     tie.close
     (tie.spec (λ c κs. search needs) (λ c. search needs) (λ c. search needs) (λ c κs. search needs) (λ c. search needs)
-    returns worst-in-requires bound-in-requires less-of-requires (λ c. search needs) returns-2)
+    returns sampling-in-requires bound-in-requires from-flag-requires from-flag-requires-2 less-of-requires (λ c. search needs) returns-2)

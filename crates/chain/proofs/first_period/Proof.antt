@@ -28,6 +28,7 @@ returns c =
     let s = c .before .args .t1 in (
       sym (ap (period (tasksOf s)) (getD-take (s .length) (s .chain) 0 0 (c .before .pre .length-least)) ∙ period-at (c .before .pre) (getD (s .chain) 0 0) (known (c .before))),
       c .before .pre .period-least (getD (s .chain) 0 0) (known (c .before)),
+      c .before .pre .period-most (getD (s .chain) 0 0) (known (c .before)),
     )
 
 pub first-period-spec : {M : Type 1} → statement M

@@ -15,7 +15,7 @@ use Rattle.theory.specs.Model.Schedule.{period, budget, rank, Proper}
 use Rattle.theory.specs.Model.Responses.{response, hyperperiod, jobs, taskResponse, Accepted}
 use Rattle.theory.specs.Analysis.Hyperperiod.{released-jobs}
 use Rattle.theory.specs.Analysis.Clearing.{clearing, response-clearing, late-clearing}
-use Rattle.theory.specs.Model.Chain.{Chain, outranked, delay, worst, worstRelease, bound}
+use Rattle.theory.specs.Model.Chain.{Chain, outranked, delay, sampling, samplingRelease, bound}
 use Rattle.theory.specs.Analysis.WalkLaws.{Alike, alike-self, walk-delay-same, walk-worst-same, walk-worst-release-same, walk-bound-same}
 
 -- What is decided to hold holds.
@@ -101,13 +101,13 @@ module _ {ts : List Task} (good : Proper ts) (p : ℕ) (rest : List ℕ) (chain 
   unfolding delay
   delay-clearing r = walk-delay-same self (response ts) (clearing ts) cleared p rest r chain
 
-  pub worst-clearing : worst ts (response ts) p rest ≡ worst ts (clearing ts) p rest
-  unfolding worst
-  worst-clearing = walk-worst-same self (response ts) (clearing ts) cleared (hyperperiod ts) p rest chain
+  pub sampling-clearing : sampling ts (response ts) p rest ≡ sampling ts (clearing ts) p rest
+  unfolding sampling
+  sampling-clearing = walk-worst-same self (response ts) (clearing ts) cleared (hyperperiod ts) p rest chain
 
-  pub worst-release-clearing : worstRelease ts (response ts) p rest ≡ worstRelease ts (clearing ts) p rest
-  unfolding worstRelease
-  worst-release-clearing = walk-worst-release-same self (response ts) (clearing ts) cleared (hyperperiod ts) p rest chain
+  pub sampling-release-clearing : samplingRelease ts (response ts) p rest ≡ samplingRelease ts (clearing ts) p rest
+  unfolding samplingRelease
+  sampling-release-clearing = walk-worst-release-same self (response ts) (clearing ts) cleared (hyperperiod ts) p rest chain
 
   pub bound-clearing : bound ts (taskResponse ts) p rest ≡ bound ts (λ i. maximum (jobs ts i) (clearing ts i)) p rest
   unfolding taskResponse bound

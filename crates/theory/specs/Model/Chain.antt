@@ -1,4 +1,4 @@
--- A chain of tasks: its delay at a release, the worst figure, the quick bound, and the paths of a run. Quotations are from document 01.
+-- A chain of tasks: its delay at a release, the sampling figure, the quick bound, and the paths of a run. Quotations are from document 01.
 -- A chain is its first task p and the list of those that follow.
 use mathlib.Core.Path.{_≡_}
 use mathlib.Core.Logic.{_≢_}
@@ -84,13 +84,14 @@ unfoldable pub delay : List Task → Table → ℕ → List ℕ → ℕ → ℕ
 unfolding nextRelease walkDelay
 delay ts = walkDelay (period ts) (outranked ts)
 
-unfoldable pub worst : List Task → Table → ℕ → List ℕ → ℕ
+-- Document 01's worst figure: "keep the old number as the sampling figure" (document 02, P2).
+unfoldable pub sampling : List Task → Table → ℕ → List ℕ → ℕ
 unfolding delay walkWorst hyperperiod
-worst ts table = walkWorst (period ts) (outranked ts) table (hyperperiod ts)
+sampling ts table = walkWorst (period ts) (outranked ts) table (hyperperiod ts)
 
-unfoldable pub worstRelease : List Task → Table → ℕ → List ℕ → ℕ
-unfolding worst walkWorstRelease
-worstRelease ts table = walkWorstRelease (period ts) (outranked ts) table (hyperperiod ts)
+unfoldable pub samplingRelease : List Task → Table → ℕ → List ℕ → ℕ
+unfolding sampling walkWorstRelease
+samplingRelease ts table = walkWorstRelease (period ts) (outranked ts) table (hyperperiod ts)
 
 unfoldable pub bound : List Task → (ℕ → ℕ) → ℕ → List ℕ → ℕ
 unfolding walkBound

@@ -10,8 +10,8 @@ use Rattle.theory.specs.declared.Task.{Task}
 use Rattle.arith.specs.Ranges.{sum, maximum}
 use Rattle.theory.specs.Model.Responses.{LateTask, response, taskResponse, hyperperiod, jobs, allJobs, idleTicks, Accepted}
 use Rattle.theory.specs.Analysis.Idle.{idle-adds-up}
-use Rattle.theory.specs.Analysis.Evaluation.{delay-clearing, chain?, worst-clearing, worst-release-clearing, bound-clearing, decided, proper?, clears?, clears-accepted, Row, row?, cleared-row}
-use Rattle.theory.specs.Model.Chain.{delay, worst, worstRelease, bound}
+use Rattle.theory.specs.Analysis.Evaluation.{delay-clearing, chain?, sampling-clearing, sampling-release-clearing, bound-clearing, decided, proper?, clears?, clears-accepted, Row, row?, cleared-row}
+use Rattle.theory.specs.Model.Chain.{delay, sampling, samplingRelease, bound}
 use Rattle.theory.specs.Analysis.Clearing.{clearing, clearing-late}
 
 -- A task (T, C, rank).
@@ -86,37 +86,37 @@ unfolding decide row? hyperperiod
 quartet-rows =
     (row quartet-accepted 0 _ tt tt tt, row quartet-accepted 1 _ tt tt tt, row quartet-accepted 2 _ tt tt tt, row quartet-accepted 3 _ tt tt tt)
 
--- The worst figure, its release and the quick bound of a chain
+-- The sampling figure, its release and the quick bound of a chain
 
 pub record Figures (ts : List Task) (p : ℕ) (rest : List ℕ) (figure release quick : ℕ) : Type 0 where
-  pub is-worst : worst ts (response ts) p rest ≡ figure
-  pub is-release : worstRelease ts (response ts) p rest ≡ release
+  pub is-sampling : sampling ts (response ts) p rest ≡ figure
+  pub is-release : samplingRelease ts (response ts) p rest ≡ release
   pub is-bound : bound ts (taskResponse ts) p rest ≡ quick
 
 figures : {ts : List Task} → Accepted ts → (p : ℕ) (rest : List ℕ) → T (decide (chain? ts p rest)) → {figure release quick : ℕ}
-    → worst ts (clearing ts) p rest ≡ figure → worstRelease ts (clearing ts) p rest ≡ release
+    → sampling ts (clearing ts) p rest ≡ figure → samplingRelease ts (clearing ts) p rest ≡ release
     → bound ts (λ i. maximum (jobs ts i) (clearing ts i)) p rest ≡ quick
     → Figures ts p rest figure release quick
 figures {ts} ok p rest chain w r b = record {
-  is-worst = worst-clearing (ok .proper) p rest (decided (chain? ts p rest) chain) ∙ w;
-  is-release = worst-release-clearing (ok .proper) p rest (decided (chain? ts p rest) chain) ∙ r;
+  is-sampling = sampling-clearing (ok .proper) p rest (decided (chain? ts p rest) chain) ∙ w;
+  is-release = sampling-release-clearing (ok .proper) p rest (decided (chain? ts p rest) chain) ∙ r;
   is-bound = bound-clearing (ok .proper) p rest (decided (chain? ts p rest) chain) ∙ b;
 }
 
 pub trio-chain : Figures trio 0 (1 ∷ 2 ∷ []) 6 0 8
-unfolding decide chain? worst worstRelease bound clearing
+unfolding decide chain? sampling samplingRelease bound clearing
 trio-chain = figures trio-accepted 0 (1 ∷ 2 ∷ []) tt refl refl refl
 
 pub radio-chain : Figures radio 0 (1 ∷ 2 ∷ []) 20 20 24
-unfolding decide chain? worst worstRelease bound clearing
+unfolding decide chain? sampling samplingRelease bound clearing
 radio-chain = figures radio-accepted 0 (1 ∷ 2 ∷ []) tt refl refl refl
 
 pub radio-short-chain : Figures radio 0 (1 ∷ []) 13 0 15
-unfolding decide chain? worst worstRelease bound clearing
+unfolding decide chain? sampling samplingRelease bound clearing
 radio-short-chain = figures radio-accepted 0 (1 ∷ []) tt refl refl refl
 
 pub quartet-chain : Figures quartet 2 (3 ∷ []) 8 3 8
-unfolding decide chain? worst worstRelease bound clearing
+unfolding decide chain? sampling samplingRelease bound clearing
 quartet-chain = figures quartet-accepted 2 (3 ∷ []) tt refl refl refl
 
 -- "Delays 16 at 0, 20 at 20, 12 at 40."

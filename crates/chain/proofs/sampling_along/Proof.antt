@@ -13,8 +13,8 @@ use Rattle.chain.specs.Conditions.{mostWait, periodIn, countIn, delayIn,
 use Rattle.chain.specs.WalkLaws.{part-from, ahead-path, ahead-few, path-delay}
 use Rattle.chain.specs.GreatestLaws.{GreatestTo, greatest-first}
 use Rattle.chain.specs.FollowLaws.{Followed, followed-none, followed-again, followed-longer, followed-shorter}
-use Rattle.chain.proofs.worst_along.Statement.{statement}
-use Rattle.chain.proofs.worst_along.Tie as tie
+use Rattle.chain.proofs.sampling_along.Statement.{statement}
+use Rattle.chain.proofs.sampling_along.Tie as tie
 
 abbrev Inv-loop : tie.InvT-loop
 Inv-loop chain plan table p n from ticks₀ at₀ followed₀ k₀ ticks at followed k =
@@ -189,8 +189,8 @@ returns c =
       release-is = ap (λ at. at * periodIn (a .plan .now) (first s)) (sym (greatest-first delays n (l .ticks) (l .at) all (entry s .row .some)));
     }
 
-pub worst-along-spec : {M : Type 1} → statement M
-worst-along-spec =
+pub sampling-along-spec : {M : Type 1} → statement M
+sampling-along-spec =
     tie.close
     (tie.spec Inv-loop μ-loop (λ c. search needs) cast-p mul-n add-n mul-n-2 element-copy-out-n (λ c κs. search needs)
     loop-holds first-hand-over-requires add-if1 add-followed sub-walk part-walk-start (λ c. search needs) walk-requires

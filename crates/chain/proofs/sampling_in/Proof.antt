@@ -7,9 +7,9 @@ use Rattle.sheet.specs.Tasks.{tasksOf, chainOf}
 use Rattle.sheet.specs.TaskLaws.{chain-length}
 use Rattle.chain.specs.Conditions.{TakenChain}
 use Rattle.chain.specs.CallLaws.{sheet-chain}
-use Rattle.chain.specs.FigureLaws.{plan-path, plan-first, plan-worst}
-use Rattle.chain.proofs.worst_in.Statement.{statement}
-use Rattle.chain.proofs.worst_in.Tie as tie
+use Rattle.chain.specs.FigureLaws.{plan-path, plan-first, plan-sampling}
+use Rattle.chain.proofs.sampling_in.Statement.{statement}
+use Rattle.chain.proofs.sampling_in.Tie as tie
 
 -- The start, where the chain is lent, and where the plan is made.
 abbrev start : tie.After-struct-known → tie.Start
@@ -36,11 +36,11 @@ array-share-prefix-chain c =
     let s = start c in
     omega (arith, whole s, s .pre .0 .0 .length-most, s .pre .0 .0 .count-most)
 
-slice-aggregate-worst-along : tie.Need-slice-aggregate-worst-along
-slice-aggregate-worst-along c = sym (lent (start (c .before)))
+slice-aggregate-sampling-along : tie.Need-slice-aggregate-sampling-along
+slice-aggregate-sampling-along c = sym (lent (start (c .before)))
 
-worst-along-requires : tie.Need-worst-along-requires
-worst-along-requires c κs =
+sampling-along-requires : tie.Need-sampling-along-requires
+sampling-along-requires c κs =
     let s = start (lending c) in
     let planned = making c .plan-of .ensures in
     (plan-path (taken s) (s .pre .1 .1) planned (omega (arith, lent s, s .pre .0 .0 .length-least)), (omega (arith, lent s, s .pre .0 .0 .length-most, s .pre .0 .0 .count-most), plan-first (taken s) (s .pre .1 .1) planned))
@@ -49,10 +49,10 @@ returns : tie.Need-returns
 returns c =
     let s = start (lending (c .before)) in
     let planned = making (c .before) .plan-of .ensures in
-    plan-worst (taken s) (s .pre .1 .1) planned (c .worst-along .result) (c .worst-along .ensures)
+    plan-sampling (taken s) (s .pre .1 .1) planned (c .sampling-along .result) (c .sampling-along .ensures)
 
-pub worst-in-spec : {M : Type 1} → statement M
-worst-in-spec =
+pub sampling-in-spec : {M : Type 1} → statement M
+sampling-in-spec =
     tie.close
-    (tie.spec (λ c κs. search needs) (λ c. search needs) array-share-prefix-chain slice-aggregate-worst-along
-    worst-along-requires returns)
+    (tie.spec (λ c κs. search needs) (λ c. search needs) array-share-prefix-chain slice-aggregate-sampling-along
+    sampling-along-requires returns)

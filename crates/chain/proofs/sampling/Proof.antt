@@ -1,14 +1,14 @@
--- The rows are worked out and the worst figure is read from them; a refusal on the way is handed up.
+-- The rows are worked out and the sampling figure is read from them; a refusal on the way is handed up.
 use mathlib.Core.Path.{_≡_, sym, ap, _∙_}
 use lib.ListN.{length}
 use borrow.Author.Needs.{needs}
 use Rattle.answers.specs.Answers.{given, refusal}
 use Rattle.schedule.specs.Calls.{responsesOf, toldTotals}
 use Rattle.schedule.specs.CallLaws.{responses-no}
-use Rattle.chain.specs.Calls.{worstOf}
+use Rattle.chain.specs.Calls.{samplingOf}
 use Rattle.chain.specs.CallLaws.{answers-no, answers-given, filled-ready}
-use Rattle.chain.proofs.worst.Statement.{statement}
-use Rattle.chain.proofs.worst.Tie as tie
+use Rattle.chain.proofs.sampling.Statement.{statement}
+use Rattle.chain.proofs.sampling.Tie as tie
 
 -- The start, and the table as `responses` leaves it: before a refusal, and where it is filled.
 abbrev start : tie.After-responses → tie.Start
@@ -25,7 +25,7 @@ filled : (c : tie.After-filled) → let a = start (done c) .args in responsesOf 
 filled c = sym (done c .responses .ensures .0) ∙ ap toldTotals (c .filled .given .1)
 
 returns : tie.Need-returns
-unfolding worstOf
+unfolding samplingOf
 returns c =
     let a = start (refused (c .before)) .args in
     let r = refused (c .before) .responses in
@@ -34,21 +34,21 @@ returns c =
     (responses-no (r .ensures .0) no (c .responses-refusal .ensures))
     (r .ensures .1)
 
-worst-in-requires : tie.Need-worst-in-requires
-worst-in-requires c κs =
+sampling-in-requires : tie.Need-sampling-in-requires
+sampling-in-requires c κs =
     let a = start (done (c .before .before)) .args in
     filled-ready (a .s) (a .table .now) (filled (c .before .before)) (done (c .before .before) .responses .ensures .1)
 
 returns-2 : tie.Need-returns-2
-unfolding worstOf
+unfolding samplingOf
 returns-2 c =
     let a = start (done (c .before .before .before)) .args in
     let r = done (c .before .before .before) .responses in
-    answers-given (a .s) (a .table .now) _ (filled (c .before .before .before)) (ap given (sym (c .worst-in .ensures)))
+    answers-given (a .s) (a .table .now) _ (filled (c .before .before .before)) (ap given (sym (c .sampling-in .ensures)))
     (r .ensures .1)
 
-pub worst-spec : {M : Type 1} → statement M
-worst-spec =
+pub sampling-spec : {M : Type 1} → statement M
+sampling-spec =
     tie.close
     (tie.spec (λ c κs. search needs) (λ c. search needs) (λ c. search needs) (λ c κs. search needs) (λ c. search needs)
-    returns worst-in-requires (λ c. search needs) returns-2)
+    returns sampling-in-requires (λ c. search needs) returns-2)

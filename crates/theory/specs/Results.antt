@@ -3,3 +3,4 @@ pub mod Quartet
 pub mod Overtaken
 pub mod Demand3
 pub mod Flags
+pub mod QuickBound

@@ -1,6 +1,6 @@
 -- The answer case by case, and the task that 15 names.
 use mathlib.Core.Path.{_≡_, refl, sym, ap, ap₂, _∙_, subst}
-use mathlib.Core.List.{List}
+use mathlib.Core.List.{List, [], _∷_}
 use mathlib.Core.Bool.{Bool, true, false, cond}
 use Prim.Native.Nat.{ℕ, zero, suc, _+_, _≤_, _<_}
 use native.Mathlib.Numerals.{add-one}
@@ -14,7 +14,7 @@ use Rattle.theory.specs.Model.Greatest.{outranking, greatest}
 use Rattle.theory.specs.Model.Recurrence.{quickResponse}
 use Rattle.theory.specs.Analysis.GreatestLaws.{IsGreatest, greatest-is}
 use Rattle.answers.specs.declared.Refusal.{Refusal}
-use Rattle.answers.specs.Answers.{given, Judgement, fine, also, refusal}
+use Rattle.answers.specs.Answers.{given, refused, Judgement, fine, also, refusal}
 use Rattle.sheet.specs.declared.Sheet.{Sheet}
 use Rattle.sheet.specs.Calls.{judgeOf}
 use Rattle.sheet.specs.PlaceLaws.{places-taken}
@@ -37,6 +37,10 @@ module _ (s : Sheet) where
   pub quick-passing : (r : Refusal) → judgeOf s ≡ fine → passing ≡ refusal r → quickOf s ≡ refusal r
   unfolding quickOf
   quick-passing r e q = ap₂ (λ j k. also j (also k (given (boundsOf (tasksOf s) (chainOf s))))) e q
+
+  pub quick-passing-task : {i : ℕ} → judgeOf s ≡ fine → passingGreatest (tasksOf s) (length (tasksOf s)) ≡ busy i → quickOf s ≡ refused 15 (i ∷ [])
+  unfolding quickOf
+  quick-passing-task e q = ap₂ (λ j x. also j (also (lateness x) (given (boundsOf (tasksOf s) (chainOf s))))) e q
 
   pub quick-fits : judgeOf s ≡ fine → passing ≡ fine → quickOf s ≡ given (boundsOf (tasksOf s) (chainOf s))
   unfolding quickOf

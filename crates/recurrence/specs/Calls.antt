@@ -1,13 +1,14 @@
 -- What the call answers. Quotations are from document 02, P4, and from document 01.
 use mathlib.Core.Bool.{Bool}
 use mathlib.Core.List.{List}
-use Prim.Native.Nat.{ℕ, _+_, _-_}
+use Prim.Native.Nat.{ℕ}
 use lib.Dec.{ltb}
 use lib.ListN.{length}
 use Rattle.theory.specs.declared.Task.{Task}
 use Rattle.theory.specs.Model.Schedule.{period, rank, Slot}
 use Rattle.theory.specs.Model.Greatest.{greatest}
 use Rattle.theory.specs.Model.Chain.{bound}
+use Rattle.theory.specs.Model.Flag.{fromFlag}
 use Rattle.theory.specs.Model.Recurrence.{quickResponse}
 use Rattle.answers.specs.declared.Refusal.{Refusal}
 use Rattle.answers.specs.declared.Refusal.the-variants.{Number}
@@ -34,8 +35,8 @@ boundBy ts chain = bound ts (quickResponse ts) (firstOf chain) (restOf chain)
 -- and the bound that counts from a flag.
 abbrev pub boundsOf : List Task → List ℕ → Bounds
 boundsOf ts chain = record {
-  sampling = boundBy ts chain;
-  bound = boundBy ts chain + (period ts (firstOf chain) - 1);
+  «sampling_bound» = boundBy ts chain;
+  bound = fromFlag ts (firstOf chain) (boundBy ts chain);
 }
 
 -- "2 to 8"; then 15. "10, 11 and 14 do not occur in this call."

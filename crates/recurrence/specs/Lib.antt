@@ -6,5 +6,7 @@ pub mod Conditions
 pub mod ClaimLaws
 pub mod BoundLaws
 pub mod CallLaws
+pub mod NumberLaws
 -- The results: when each answer is given, what it says of every schedule, and one answer for each input.
+pub mod Results
 pub mod Unique

@@ -3,7 +3,7 @@ use answers::Refusal;
 
 // The quick bound from a release of the chain's first task on, and from a flag on.
 pub struct Bounds {
-    pub sampling: u32,
+    pub sampling_bound: u32,
     pub bound: u32,
 }
 

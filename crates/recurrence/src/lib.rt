@@ -150,9 +150,12 @@ fn bounds_in(s: Sheet, responses: &[u32; 16]) -> Bounds
 {
     let chain = s.chain;
     let p = chain[0] as usize;
-    let sampling = bound_in(s, responses);
-    let bound = sampling + (s.tasks[p].period - 1);
-    Bounds { sampling, bound }
+    let sampling_bound = bound_in(s, responses);
+    let bound = sampling_bound + (s.tasks[p].period - 1);
+    Bounds {
+        sampling_bound,
+        bound,
+    }
 }
 
 // The refusal in an answer that gives no bound. Number 0, which no refusal has, stands for none.

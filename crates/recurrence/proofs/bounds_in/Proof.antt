@@ -36,7 +36,7 @@ returns : tie.Need-returns
 returns c =
     let a = c .before .before in
     let s = a .args .t1 in
-    ap₂ (λ b T. record { sampling = b; bound = b + (T - 1) }) (c .bound-in .ensures)
+    ap₂ (λ b T. record { «sampling_bound» = b; bound = b + (T - 1) }) (c .bound-in .ensures)
     (sym (ap (period (tasksOf s)) (getD-take (s .length) (s .chain) 0 0 (a .pre .0 .length-least)) ∙ period-at (a .pre .0) (getD (s .chain) 0 0) (known a)))
 
 pub bounds-in-spec : {M : Type 1} → statement M

@@ -4,6 +4,7 @@ use mathlib.Core.Bool.{Bool, true, false, cond}
 use mathlib.Core.List.{List}
 use Prim.Native.Nat.{ℕ, _+_, _-_, _*_, _/_, _≤_, _<_}
 use native.Mathlib.Numerals.{add-one}
+use native.Mathlib.Nat.{mul-comm, mul-le-mul-right, div-mul-le-self}
 use native.Mathlib.Omega.{arith}
 use lib.Dec.{ltb}
 use lib.ListN.{getD}
@@ -20,6 +21,13 @@ use Rattle.sheet.specs.Sound.{Sound}
 use Rattle.sheet.specs.Tasks.{tasksOf}
 use Rattle.sheet.specs.TaskLaws.{tasks-length, task-at, budget-at, place-allowed}
 use Rattle.recurrence.specs.Conditions.{mostPeriod, mostShare}
+
+-- A budget that is at most its period, times a quotient by it, is at most what was divided.
+pub product-most : (b T y : ℕ) → b ≤ T → b * (y / T) ≤ y
+product-most b T y l = omega (arith, mul-le-mul-right {m = b} {n = T} (y / T) l, mul-comm T (y / T), div-mul-le-self y T)
+
+pub added-most : (t b T y : ℕ) → b ≤ T → t + b * (y / T) ≤ t + y
+added-most t b T y l = omega (arith, product-most b T y l)
 
 -- What the task in place j claims of x ticks.
 abbrev pub shareAt : Sheet → ℕ → ℕ → ℕ

@@ -4,3 +4,4 @@ pub mod Overtaken
 pub mod Demand3
 pub mod Flags
 pub mod QuickBound
+pub mod QuickExamples

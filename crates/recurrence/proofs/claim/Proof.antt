@@ -2,10 +2,13 @@
 use mathlib.Core.Path.{_≡_, ap, _∙_}
 use mathlib.Core.Logic.{⊎-elim}
 use Prim.Native.Nat.{_-_, _≤_}
+use native.Mathlib.Nat.{lt-of-le-of-lt}
 use native.Mathlib.Omega.{arith}
-use Rattle.sheet.specs.TaskLaws.{place-allowed}
-use Rattle.recurrence.specs.ClaimLaws.{claimTo, claim-start, claim-all, claim-more, claim-same, claim-most, share-small}
-use borrow.Author.Needs.{needs}
+use lib.ListN.{getD}
+use Rattle.theory.specs.Model.Schedule.{none}
+use Rattle.sheet.specs.TaskLaws.{Allowed, place-allowed}
+use Rattle.recurrence.specs.ClaimLaws.{claimTo, claim-start, claim-all, claim-more, claim-same, claim-most, product-most, added-most}
+use borrow.Author.Needs.{needs, fits-under}
 use Rattle.recurrence.proofs.claim.Statement.{statement}
 use Rattle.recurrence.proofs.claim.Tie as tie
 
@@ -18,33 +21,36 @@ abbrev μ-loop : tie.MeasureT-loop
 loop-holds : tie.Need-loop-holds Inv-loop μ-loop
 loop-holds c = (omega arith, claim-start (c .pre .0) (c .args .i) (c .args .candidate) (c .pre .1 .0))
 
+-- The task that outranks.
+task : (c : tie.Then1 Inv-loop μ-loop) → Allowed (getD (c .before .before .before .args .t1 .tasks) (c .before .before .loop .j) none)
+task c = place-allowed (c .before .before .before .pre .0) (c .before .before .loop .j) (omega arith)
+
 sub-ticks : tie.Need-sub-ticks Inv-loop μ-loop
-sub-ticks c = let a = c .before .before .before in place-allowed (a .pre .0) (c .before .before .loop .j) (omega arith) .period-positive
+sub-ticks c = omega (arith, task c)
 
 add-ticks : tie.Need-add-ticks Inv-loop μ-loop
-add-ticks c =
-    let a = c .before .before .before in
-    omega (arith, a .pre .1 .1, place-allowed (a .pre .0) (c .before .before .loop .j) (omega arith) .period-most)
+add-ticks c = omega (arith, task c, c .before .before .before .pre .1 .1)
 
 div-ticks : tie.Need-div-ticks Inv-loop μ-loop
-div-ticks c = let a = c .before .before .before in place-allowed (a .pre .0) (c .before .before .loop .j) (omega arith) .period-positive
+div-ticks c = task c .period-positive
 
 mul-ticks-3 : tie.Need-mul-ticks-3 Inv-loop μ-loop
-mul-ticks-3 c =
-    let a = c .before .before .before in
-    omega (arith, share-small (a .pre .0) (a .args .i) (a .args .candidate) (a .pre .1 .0) (c .before .before .loop .j) (omega arith) (a .pre .1 .1))
+mul-ticks-3 c = fits-under _ _ 200001 (lt-of-le-of-lt (product-most _ _ _ (task c .budget-most)) (omega (arith, task c, c .before .before .before .pre .1 .1))) tt
 
 add-ticks-2 : tie.Need-add-ticks-2 Inv-loop μ-loop
 add-ticks-2 c =
     let a = c .before .before .before in
     let l = c .before .before .loop in
-    omega (
+    fits-under _ _ 3600000
+    (lt-of-le-of-lt (added-most _ _ _ _ (task c .budget-most)) (omega (
       arith,
       l .inv .1,
-      share-small (a .pre .0) (a .args .i) (a .args .candidate) (a .pre .1 .0) (l .j) (omega arith) (a .pre .1 .1),
       claim-most (a .pre .0) (a .args .i) (a .args .candidate) (a .pre .1 .0) (l .j) (omega arith) (a .pre .1 .1),
       a .pre .0 .count-most,
-    )
+      a .pre .1 .1,
+      task c,
+    )))
+    tt
 
 loop-again : tie.Need-loop-again Inv-loop μ-loop
 loop-again c =

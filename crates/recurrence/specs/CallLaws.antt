@@ -53,7 +53,10 @@ module _ (s : Sheet) where
 
 -- ---- the greatest-ranked task that passes its period
 
--- The task that is found, and one more than its rank; 0 where none is.
+pub found : (ts : List Task) {x : Slot} → passingGreatest ts (length ts) ≡ x → IsGreatest (rank ts) (passes ts) (length ts) x
+found ts e = subst (IsGreatest (rank ts) (passes ts) (length ts)) e (greatest-is (rank ts) (passes ts) (length ts))
+
+-- The task so far, and one more than its rank; 0 where there is none.
 abbrev pub slotOf : ℕ → ℕ → Slot
 slotOf zero found = idle
 slotOf (suc rank) found = busy found
@@ -122,10 +125,7 @@ module _ {s : Sheet} (ok : Sound s) {values : List ℕ} (are : values ≡ respon
 
   -- Where none passes, the values are responses.
   pub none-responding : passingGreatest (tasksOf s) (length (tasksOf s)) ≡ idle → Responding s values
-  none-responding e = record { response-is = response-at; response-most = λ i l. ltb-false _ _ (none i (omega (arith, tasks-length ok))) }
-    where
-      none : (i : ℕ) → i < length (tasksOf s) → passes (tasksOf s) i ≡ false
-      none = subst (IsGreatest (rank (tasksOf s)) (passes (tasksOf s)) (length (tasksOf s))) e (greatest-is (rank (tasksOf s)) (passes (tasksOf s)) (length (tasksOf s)))
+  none-responding e = record { response-is = response-at; response-most = λ i l. ltb-false _ _ (found (tasksOf s) e i (omega (arith, tasks-length ok))) }
 
 -- All tasks are looked at.
 pub found-all : {s : Sheet} → Sound s → {i above found : ℕ} → i ≡ s .count → FoundTo s i above found

@@ -12,7 +12,6 @@ use Rattle.theory.specs.Model.Responses.{response, Accepted}
 use Rattle.theory.specs.Model.Chain.{PathEnds}
 use Rattle.theory.specs.Model.Flag.{FlagWithin}
 use Rattle.theory.specs.Model.Recurrence.{quickResponse, Passing, EverLate}
-use Rattle.theory.specs.Analysis.GreatestLaws.{IsGreatest, greatest-is}
 use Rattle.theory.specs.Analysis.QuickLaws.{within-accepted}
 use Rattle.theory.specs.Results.QuickBound as theory
 use Rattle.answers.specs.Answers.{Answer, given, refused, Judgement, fine, also}
@@ -25,8 +24,8 @@ use Rattle.sheet.specs.Tasks.{tasksOf, chainOf, firstOf, restOf, lateness}
 use Rattle.sheet.specs.TaskLaws.{tasks-length, sound-proper, chain-known, lateness-fine}
 use Rattle.recurrence.specs.declared.answer.Bounds.{Bounds}
 use Rattle.recurrence.specs.declared.answer.QuickBound.{QuickBound}
-use Rattle.recurrence.specs.Calls.{passes, passingGreatest, boundsOf, quickOf, responsesAfter}
-use Rattle.recurrence.specs.CallLaws.{quick-fits, quick-passing-task, response-at}
+use Rattle.recurrence.specs.Calls.{passingGreatest, boundsOf, quickOf, responsesAfter}
+use Rattle.recurrence.specs.CallLaws.{found, quick-fits, quick-passing-task, response-at}
 use Rattle.recurrence.specs.Promises.{BoundPromise}
 
 -- ---- when each answer is given
@@ -46,24 +45,21 @@ pub record LateWhen (s : Sheet) (i : ℕ) : Type 0 where
 
 -- The task that is found.
 module _ (ts : List Task) where
-  found : {x : Slot} → passingGreatest ts (length ts) ≡ x → IsGreatest (rank ts) (passes ts) (length ts) x
-  found e = subst (IsGreatest (rank ts) (passes ts) (length ts)) e (greatest-is (rank ts) (passes ts) (length ts))
-
   none-found : ((i : ℕ) → i < length ts → quickResponse ts i ≤ period ts i) → passingGreatest ts (length ts) ≡ idle
   none-found none = go (passingGreatest ts (length ts)) refl
     where
       go : (x : Slot) → passingGreatest ts (length ts) ≡ x → x ≡ idle
       go idle e = refl
-      go (busy i) e = absurd (omega (arith, none i (found e .0), ltb-true (period ts i) (quickResponse ts i) (found e .1)))
+      go (busy i) e = absurd (omega (arith, none i (found ts e .0), ltb-true (period ts i) (quickResponse ts i) (found ts e .1)))
 
   task-found : Proper ts → {i : ℕ} → i < length ts → Passing ts i → ((j : ℕ) → j < length ts → Passing ts j → rank ts j ≤ rank ts i)
       → passingGreatest ts (length ts) ≡ busy i
   task-found good {i} known p most = go (passingGreatest ts (length ts)) refl
     where
       go : (x : Slot) → passingGreatest ts (length ts) ≡ x → x ≡ busy i
-      go idle e = absurd (false≢true (sym (found e i known) ∙ lt-ltb (period ts i) (quickResponse ts i) p))
+      go idle e = absurd (false≢true (sym (found ts e i known) ∙ lt-ltb (period ts i) (quickResponse ts i) p))
       go (busy j) e =
-          let x = found e in
+          let x = found ts e in
           ap busy (good .ranks-differ j i (x .0) known (omega (
             arith,
             x .2 i known (lt-ltb (period ts i) (quickResponse ts i) p),

@@ -420,8 +420,22 @@ fn chains() -> Vec<Request> {
 
 // The quick bound without a table: odd periods, values that just fit, long climbs, the ends of ranges, and the order of its refusals
 
-/// Sixteen tasks, the first ranked highest and each below the one before it, with a chain of all that begins with the lowest.
-fn falling(tasks: &[(u32, u32)]) -> Memory {
+/// Periods and budgets of sixteen tasks, the first ranked highest, for which the searches take the most steps that were found, of a sheet
+/// that is answered: the first tasks leave so little over that a value rises slowly, and stops just before the period.
+pub const LONGEST_CLIMB: [(u32, u32); 16] = [
+    (3, 1), (2, 1), (7, 1), (43, 1), (2_438, 1), (100_000, 3), (100_000, 2), (100_000, 1), (99_998, 1), (100_000, 1), (100_000, 1),
+    (100_000, 1), (100_000, 1), (100_000, 1), (100_000, 1), (100_000, 1),
+];
+
+/// The same of any sheet: the first task leaves nothing over, and each step adds only the budgets of the others.
+pub const LONGEST_LATE_CLIMB: [(u32, u32); 16] = {
+    let mut tasks = [(100_000, 1); 16];
+    tasks[0] = (1, 1);
+    tasks
+};
+
+/// Tasks of which each ranks below the one before it, with a chain of all that begins with the lowest.
+pub fn falling(tasks: &[(u32, u32)]) -> Memory {
     let tasks: Vec<_> = tasks.iter().zip((0..16).rev()).map(|(&(period, budget), rank)| (period, budget, rank)).collect();
     sheet(&tasks, &(0..tasks.len() as u8).rev().collect::<Vec<_>>())
 }

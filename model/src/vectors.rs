@@ -423,8 +423,8 @@ fn chains() -> Vec<Request> {
 /// Periods and budgets of sixteen tasks, the first ranked highest, for which the searches take the most steps that were found, of a sheet
 /// that is answered: the first tasks leave so little over that a value rises slowly, and stops just before the period.
 pub const LONGEST_CLIMB: [(u32, u32); 16] = [
-    (3, 1), (2, 1), (7, 1), (43, 1), (2_438, 1), (100_000, 3), (100_000, 2), (100_000, 1), (99_998, 1), (100_000, 1), (100_000, 1),
-    (100_000, 1), (100_000, 1), (100_000, 1), (100_000, 1), (100_000, 1),
+    (3, 1), (2, 1), (7, 1), (43, 1), (2_426, 1), (99_998, 3), (100_000, 2), (100_000, 1), (100_000, 1), (100_000, 1), (100_000, 1),
+    (99_999, 1), (99_999, 1), (100_000, 1), (100_000, 1), (100_000, 1),
 ];
 
 /// The same of any sheet: the first task leaves nothing over, and each step adds only the budgets of the others.

@@ -141,7 +141,7 @@ fn put_task_figures(out: &mut [u8], t: TaskFigures) -> usize {
 
 fn put_quick(out: &mut [u8], q: Quick) -> usize {
     match q {
-        Quick::Of(bounds) => two(out, bounds.sampling, bounds.bound),
+        Quick::Of(bounds) => two(out, bounds.sampling_bound, bounds.bound),
         Quick::No(r) => refused(out, r),
     }
 }

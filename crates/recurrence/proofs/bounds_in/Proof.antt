@@ -25,7 +25,7 @@ element-copy-out-bound : tie.Need-element-copy-out-bound
 element-copy-out-bound c = let a = c .before .before in omega (arith, known a, a .pre .0 .count-most)
 
 sub-bound : tie.Need-sub-bound
-sub-bound c = let a = c .before .before in place-allowed (a .pre .0) (getD (a .args .t1 .chain) 0 0) (known a) .period-positive
+sub-bound c = let a = c .before .before in omega (arith, place-allowed (a .pre .0) (getD (a .args .t1 .chain) 0 0) (known a) .period-positive)
 
 add-bound : tie.Need-add-bound
 add-bound c =

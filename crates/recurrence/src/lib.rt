@@ -12,56 +12,86 @@ use sheet::Sheet;
 ghost use mathlib.Core.Path.{_≡_};
 ghost use Prim.Native.Nat.{_≤_, _<_};
 ghost use lib.ListN.{length};
-ghost use Rattle.theory.specs.Model.Recurrence.{claim, quickResponse};
-ghost use Rattle.theory.specs.Model.Schedule.{budget};
+ghost use Rattle.theory.specs.Model.Recurrence.{quickResponse};
 ghost use Rattle.answers.specs.Answers.{told};
 ghost use Rattle.sheet.specs.Sound.{Sound};
 ghost use Rattle.sheet.specs.Tasks.{tasksOf, chainOf, lateness};
 ghost use Rattle.recurrence.specs.Calls.{passingGreatest, boundBy, boundsOf, responsesIn};
-ghost use Rattle.recurrence.specs.Conditions.{mostPeriod, pairOf, Responding};
+ghost use Rattle.recurrence.specs.Conditions.{mostPeriod, Places, Outranking, claimIn, pairOf, Responding};
 ghost use Rattle.recurrence.specs.Promises.{BoundPromise, BoundRefusalPromise};
 
-// "own budget, plus for each outranking task its budget times (the candidate divided by that task's period, the quotient rounded up)".
-// A budget is at most its period, so each product is less than the candidate and the period.
-fn claim(s: Sheet, i: usize, candidate: u32) -> u32
+// The periods and budgets of the tasks that outrank task i, and how many they are.
+fn gather(s: Sheet, i: usize, periods: &mut [u32; 16], budgets: &mut [u32; 16]) -> usize
     requires { ⌜ Sound s ⌝ }
-    requires { ⌜ (i < s .count) × (candidate ≤ mostPeriod) ⌝ }
-    ensures { λ r. ⌜ r ≡ claim (tasksOf s) (budget (tasksOf s)) i candidate ⌝ }
+    requires { ⌜ (i < s .count) × (length (now periods) ≡ 16) × (length (now budgets) ≡ 16) ⌝ }
+    ensures { λ r. ⌜ Outranking (tasksOf s) i (s .count) (now (periods .exit)) (now (budgets .exit)) r ⌝ }
 {
     let n = s.count as usize;
     let rank = s.tasks[i].rank;
-    let mut ticks = s.tasks[i].budget;
+    let mut size = 0usize;
     let mut j = 0usize;
     while j < n {
-        if rank < s.tasks[j].rank {
-            let period = s.tasks[j].period;
-            ticks += s.tasks[j].budget * ((candidate + (period - 1)) / period);
+        let t = s.tasks[j];
+        if rank < t.rank {
+            periods[size] = t.period;
+            budgets[size] = t.budget;
+            size += 1;
         }
         j += 1;
+    }
+    size
+}
+
+// "own budget, plus for each outranking task its budget times (the candidate divided by that task's period, the quotient rounded up)".
+// A budget is at most its period, so each product is less than the candidate and the period.
+fn claim(periods: &[u32; 16], budgets: &[u32; 16], size: usize, own: u32, candidate: u32) -> u32
+    requires { ⌜ Places (now periods) (now budgets) size ⌝ }
+    requires { ⌜ (own ≤ mostPeriod) × (candidate ≤ mostPeriod) ⌝ }
+    ensures { λ r. ⌜ r ≡ claimIn (now (periods .entry)) (now (budgets .entry)) size own candidate ⌝ }
+{
+    let mut ticks = own;
+    let mut p = 0usize;
+    while p < size {
+        let period = periods[p];
+        ticks += budgets[p] * ((candidate + (period - 1)) / period);
+        p += 1;
     }
     ticks
 }
 
 // "the least fixed point": the search "begins at the budget and stops at the first value that repeats, or once it passes the period".
 // Of a task that passes it the value is T + 1.
-fn response(s: Sheet, i: usize) -> u32
+fn climb(s: Sheet, i: usize, periods: &[u32; 16], budgets: &[u32; 16], size: usize) -> u32
     requires { ⌜ Sound s ⌝ }
-    requires { ⌜ i < s .count ⌝ }
+    requires { ⌜ (i < s .count) × Outranking (tasksOf s) i (s .count) (now periods) (now budgets) size ⌝ }
     ensures { λ r. ⌜ r ≡ quickResponse (tasksOf s) i ⌝ }
 {
-    let period = s.tasks[i].period;
-    let mut candidate = s.tasks[i].budget;
+    let own = s.tasks[i].budget;
+    let mut candidate = own;
     let value = loop {
+        let period = s.tasks[i].period;
         if period < candidate {
             break period + 1;
         }
-        let next = claim(s, i, candidate);
+        let next = claim(periods, budgets, size, own, candidate);
         if next == candidate {
             break candidate;
         }
         candidate = next;
     };
     value
+}
+
+// The value of task i. Those that outrank it are gathered once, so that a step of the search divides and does nothing else.
+fn response(s: Sheet, i: usize) -> u32
+    requires { ⌜ Sound s ⌝ }
+    requires { ⌜ i < s .count ⌝ }
+    ensures { λ r. ⌜ r ≡ quickResponse (tasksOf s) i ⌝ }
+{
+    let mut periods = [0u32; 16];
+    let mut budgets = [0u32; 16];
+    let size = gather(s, i, &mut periods, &mut budgets);
+    climb(s, i, &periods, &budgets, size)
 }
 
 // The value of each task, in sixteen places.

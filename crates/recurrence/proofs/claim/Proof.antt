@@ -1,79 +1,73 @@
--- After j turns the claim is that of the first j tasks.
+-- After p turns the claim is that of the first p places.
 use mathlib.Core.Path.{_≡_, ap, _∙_}
-use mathlib.Core.Logic.{⊎-elim}
-use Prim.Native.Nat.{_-_, _≤_}
+use Prim.Native.Nat.{_-_, _≤_, _<_}
 use native.Mathlib.Nat.{lt-of-le-of-lt}
+use native.Mathlib.Numerals.{add-one}
 use native.Mathlib.Omega.{arith}
-use lib.ListN.{getD}
-use Rattle.theory.specs.Model.Schedule.{none}
-use Rattle.sheet.specs.TaskLaws.{Allowed, place-allowed}
-use Rattle.recurrence.specs.ClaimLaws.{claimTo, claim-start, claim-all, claim-more, claim-same, claim-most, product-most, added-most}
+use Rattle.arith.specs.Ranges.{sum}
+use Rattle.theory.specs.Model.Recurrence.{quotient}
+use Rattle.recurrence.specs.Conditions.{claimIn}
+use Rattle.recurrence.specs.ClaimLaws.{claim-most, product-most, added-most}
 use borrow.Author.Needs.{needs, fits-under}
 use Rattle.recurrence.proofs.claim.Statement.{statement}
 use Rattle.recurrence.proofs.claim.Tie as tie
 
 abbrev Inv-loop : tie.InvT-loop
-Inv-loop i candidate s n rank ticks₀ j₀ ticks j = (j ≤ n) × (ticks ≡ claimTo s i candidate j)
+Inv-loop periods budgets size own candidate ticks₀ p₀ ticks p = (p ≤ size) × (ticks ≡ claimIn periods budgets p own candidate)
 
 abbrev μ-loop : tie.MeasureT-loop
-μ-loop i candidate s n rank ticks₀ j₀ ticks j = n - j
+μ-loop periods budgets size own candidate ticks₀ p₀ ticks p = size - p
 
 loop-holds : tie.Need-loop-holds Inv-loop μ-loop
-loop-holds c = (omega arith, claim-start (c .pre .0) (c .args .i) (c .args .candidate) (c .pre .1 .0))
-
--- The task that outranks.
-task : (c : tie.Then1 Inv-loop μ-loop) → Allowed (getD (c .before .before .before .args .t1 .tasks) (c .before .before .loop .j) none)
-task c = place-allowed (c .before .before .before .pre .0) (c .before .before .loop .j) (omega arith)
+unfolding claimIn sum
+loop-holds c = (omega arith, omega arith)
 
 sub-ticks : tie.Need-sub-ticks Inv-loop μ-loop
-sub-ticks c = omega (arith, task c)
+sub-ticks c = let a = c .before .before .before .before in a .pre .0 .period-positive (c .before .before .before .loop .p) (omega arith)
 
 add-ticks : tie.Need-add-ticks Inv-loop μ-loop
-add-ticks c = omega (arith, task c, c .before .before .before .pre .1 .1)
+add-ticks c =
+    let a = c .before .before .before .before in
+    omega (arith, a .pre .0 .period-most (c .before .before .before .loop .p) (omega arith), a .pre .1 .1)
 
 div-ticks : tie.Need-div-ticks Inv-loop μ-loop
-div-ticks c = task c .period-positive
+div-ticks c = let a = c .before .before .before .before in a .pre .0 .period-positive (c .before .before .before .loop .p) (omega arith)
 
-mul-ticks-3 : tie.Need-mul-ticks-3 Inv-loop μ-loop
-mul-ticks-3 c = fits-under _ _ 200001 (lt-of-le-of-lt (product-most _ _ _ (task c .budget-most)) (omega (arith, task c, c .before .before .before .pre .1 .1))) tt
+mul-ticks-2 : tie.Need-mul-ticks-2 Inv-loop μ-loop
+mul-ticks-2 c =
+    let a = c .before .before .before .before in
+    let p = c .before .before .before .loop .p in
+    let l : p < a .args .size = omega arith in
+    fits-under _ _ 200001 (lt-of-le-of-lt (product-most _ _ _ (a .pre .0 .budget-most p l)) (omega (arith, a .pre .0 .period-most p l, a .pre .1 .1))) tt
 
 add-ticks-2 : tie.Need-add-ticks-2 Inv-loop μ-loop
 add-ticks-2 c =
-    let a = c .before .before .before in
-    let l = c .before .before .loop in
+    let a = c .before .before .before .before in
+    let turn = c .before .before .before .loop in
+    let l : turn .p < a .args .size = omega arith in
     fits-under _ _ 3600000
-    (lt-of-le-of-lt (added-most _ _ _ _ (task c .budget-most)) (omega (
+    (lt-of-le-of-lt (added-most _ _ _ _ (a .pre .0 .budget-most (turn .p) l)) (omega (
       arith,
-      l .inv .1,
-      claim-most (a .pre .0) (a .args .i) (a .args .candidate) (a .pre .1 .0) (l .j) (omega arith) (a .pre .1 .1),
-      a .pre .0 .count-most,
-      a .pre .1 .1,
-      task c,
+      turn .inv .1,
+      claim-most (a .pre .0) (a .args .candidate) (a .pre .1 .1) (a .args .own) (turn .p) (omega arith),
+      a .pre .0 .few,
+      a .pre .0 .period-most (turn .p) l,
+      a .pre .1,
     )))
     tt
 
 loop-again : tie.Need-loop-again Inv-loop μ-loop
-loop-again c =
-    let a = c .before .before .before in
-    let l = c .before .before .loop in (
-      omega arith,
-      ⊎-elim
-          (λ w. omega (arith, w .1, l .inv .1, claim-more (a .pre .0) (a .args .i) (a .args .candidate) (a .pre .1 .0) (l .j) (omega arith) (w .0 .taken)))
-          (λ w. omega (arith, w .1, l .inv .1, claim-same (a .pre .0) (a .args .i) (a .args .candidate) (a .pre .1 .0) (l .j) (omega arith) (w .0 .left)))
-          (c .if1 .came),
-    )
+unfolding claimIn quotient sum
+loop-again c = (omega arith, rw add-one (omega (arith, c .before .before .before .loop .inv .1)))
 
 returns : tie.Need-returns Inv-loop μ-loop
 returns c =
-    let a = c .before .before in
+    let a = c .before .before .args in
     let l = c .before .loop in
-    l .inv .1 ∙ ap (claimTo (a .args .t1) (a .args .i) (a .args .candidate)) {x = l .j} {y = a .args .t1 .count} (omega arith)
-    ∙ claim-all (a .pre .0) (a .args .i) (a .args .candidate) (a .pre .1 .0)
+    l .inv .1 ∙ ap (λ n. claimIn (a .periods .now) (a .budgets .now) n (a .own) (a .candidate)) {x = l .p} {y = a .size} (omega arith)
 
 pub claim-spec : {M : Type 1} → statement M
 claim-spec =
     tie.close
-    (tie.spec Inv-loop μ-loop (λ c. search needs) (λ c. search needs) (λ c. search needs) (λ c. search needs)
-    (λ c. search needs) loop-holds (λ c. search needs) (λ c. search needs) (λ c. search needs) (λ c. search needs)
-    (λ c. search needs) (λ c. search needs) sub-ticks add-ticks div-ticks mul-ticks-3 add-ticks-2 (λ c. search needs)
-    (λ c. search needs) loop-again returns)
+    (tie.spec Inv-loop μ-loop loop-holds (λ c. search needs) (λ c. search needs) (λ c. search needs) (λ c. search needs) sub-ticks add-ticks
+    div-ticks mul-ticks-2 add-ticks-2 (λ c. search needs) (λ c. search needs) loop-again returns)

@@ -1,59 +1,15 @@
--- The candidates climb and pass no fixed point, so the first that repeats is the least, and once the period is passed there is none up to it.
-use mathlib.Core.Path.{sym, _∙_, subst}
-use Prim.Native.Nat.{_+_, _-_}
-use native.Mathlib.Omega.{arith}
-use Rattle.theory.specs.Model.Schedule.{budget}
-use Rattle.theory.specs.Analysis.RecurrenceLaws.{Climbs, climb-start, climb-step, climb-fixed, climb-over}
-use Rattle.sheet.specs.Tasks.{tasksOf}
-use Rattle.sheet.specs.TaskLaws.{sound-proper, period-at, budget-at, place-allowed}
+-- The places hold those that outrank the task, and the search over these finds its least fixed point.
 use borrow.Author.Needs.{needs}
 use Rattle.recurrence.proofs.response.Statement.{statement}
 use Rattle.recurrence.proofs.response.Tie as tie
 
-abbrev Inv-loop : tie.InvT-loop
-Inv-loop i s period candidate₀ candidate = Climbs (tasksOf s) (budget (tasksOf s)) i candidate
+climb-requires : tie.Need-climb-requires
+climb-requires c κs =
+    let a = c .before .before .before .before .before in
+    (a .pre .0, (a .pre .1, c .before .before .gather .ensures))
 
-abbrev μ-loop : tie.MeasureT-loop
-μ-loop i s period candidate₀ candidate = (period + 1) - candidate
-
-loop-holds : tie.Need-loop-holds Inv-loop μ-loop
-loop-holds c =
-    let ts = tasksOf (c .args .t1) in
-    subst (Climbs ts (budget ts) (c .args .i)) (budget-at (c .pre .0) (c .args .i) (c .pre .1)) (climb-start ts (budget ts) (c .args .i))
-
-add-value : tie.Need-add-value Inv-loop μ-loop
-add-value c = let a = c .before .before in omega (arith, place-allowed (a .pre .0) (a .args .i) (a .pre .1) .period-most)
-
-claim-requires : tie.Need-claim-requires Inv-loop μ-loop
-claim-requires c κs =
-    let a = c .before .before in
-    (a .pre .0, (a .pre .1, omega (arith, c .if1 .left, place-allowed (a .pre .0) (a .args .i) (a .pre .1) .period-most)))
-
-loop-less : tie.Need-loop-less Inv-loop μ-loop
-loop-less c =
-    let l = c .before .before .before .loop in
-    omega (arith, c .before .before .if1 .left, c .if2 .left, c .before .claim .ensures, l .inv .rises)
-
-loop-again : tie.Need-loop-again Inv-loop μ-loop
-loop-again c =
-    let a = c .before .before .before .before in
-    let ts = tasksOf (a .args .t1) in
-    subst (Climbs ts (budget ts) (a .args .i)) (sym (c .before .claim .ensures)) (climb-step (c .before .before .before .loop .inv) (sound-proper (a .pre .0)))
-
-returns : tie.Need-returns Inv-loop μ-loop
-returns c =
-    let a = c .before .before in
-    let T = period-at (a .pre .0) (a .args .i) (a .pre .1) in
-    omega (arith, T, climb-over (c .before .loop .inv) (omega (arith, T, c .if1 .taken)))
-
-returns-2 : tie.Need-returns-2 Inv-loop μ-loop
-returns-2 c =
-    let a = c .before .before .before .before in
-    let T = period-at (a .pre .0) (a .args .i) (a .pre .1) in
-    climb-fixed (c .before .before .before .loop .inv) (omega (arith, T, c .before .before .if1 .left)) (sym (c .before .claim .ensures) ∙ c .if2 .taken)
+returns : tie.Need-returns
+returns c = c .climb .ensures
 
 pub response-spec : {M : Type 1} → statement M
-response-spec =
-    tie.close
-    (tie.spec Inv-loop μ-loop (λ c. search needs) (λ c. search needs) (λ c. search needs) (λ c. search needs) loop-holds add-value claim-requires
-    loop-less loop-again returns returns-2)
+response-spec = tie.close (tie.spec (λ c κs. search needs) climb-requires returns)

@@ -1,9 +1,9 @@
 // The report as one would write it by hand in C, to compare with. A program that includes this has a way to fill the table.
 //
-//     PROGRAM report|bound|table|sampling|quick|read < SHEET
+//     PROGRAM report|bound|bound-twin|table|sampling|quick|quick-twin|read < SHEET
 //
 // `report` and `bound` print what the proved programs of these names print. The others print one number: the idle ticks, the sampling
-// figure, the bound without a table, the task count.
+// figure, the bound without a table, the task count. With `-twin` the tasks that outrank one are gathered before they are gone over.
 #include <stdbool.h>
 #include <stdint.h>
 #include <stdio.h>
@@ -199,11 +199,33 @@ static uint32_t climb(const struct sheet *s, uint32_t i) {
     return value;
 }
 
+// The same, with those that outrank it gathered once, as ours does.
+static uint32_t climb_gathered(const struct sheet *s, uint32_t i) {
+    struct task own = s->tasks[i];
+    uint32_t periods[MOST_TASKS], budgets[MOST_TASKS], size = 0;
+    for (uint32_t j = 0; j < s->count; j++)
+        if (own.rank < s->tasks[j].rank) {
+            periods[size] = s->tasks[j].period;
+            budgets[size] = s->tasks[j].budget;
+            size++;
+        }
+    uint32_t value = own.budget;
+    while (value <= own.period) {
+        uint32_t next = own.budget;
+        for (uint32_t p = 0; p < size; p++)
+            next += budgets[p] * ((value + (periods[p] - 1)) / periods[p]);
+        if (next == value)
+            break;
+        value = next;
+    }
+    return value;
+}
+
 // The bound from a flag on, and the response of each task.
-static uint32_t quick_bound(const struct sheet *s, uint32_t *responses) {
+static uint32_t quick_bound(const struct sheet *s, bool gathered, uint32_t *responses) {
     int late = -1;
     for (uint32_t i = 0; i < s->count; i++) {
-        responses[i] = climb(s, i);
+        responses[i] = gathered ? climb_gathered(s, i) : climb(s, i);
         if (s->tasks[i].period < responses[i] && (late < 0 || s->tasks[late].rank < s->tasks[i].rank))
             late = i;
     }
@@ -214,9 +236,9 @@ static uint32_t quick_bound(const struct sheet *s, uint32_t *responses) {
     return sampling_bound(s, responses) + (s->tasks[s->chain[0]].period - 1);
 }
 
-static void print_bound(const struct sheet *s) {
+static void print_bound(const struct sheet *s, bool gathered) {
     uint32_t responses[MOST_TASKS];
-    uint32_t ticks = quick_bound(s, responses);
+    uint32_t ticks = quick_bound(s, gathered, responses);
     for (uint32_t i = 0; i < s->count; i++)
         printf("task %u response %u\n", i, responses[i]);
     printf("chain");
@@ -255,13 +277,14 @@ int main(int count, char **words) {
         printf("%u\n", s.count);
         return 0;
     }
-    if (strcmp(what, "quick") == 0) {
+    bool gathered = strstr(what, "-twin") != NULL;
+    if (strncmp(what, "quick", 5) == 0) {
         uint32_t responses[MOST_TASKS];
-        printf("%u\n", quick_bound(&s, responses));
+        printf("%u\n", quick_bound(&s, gathered, responses));
         return 0;
     }
-    if (strcmp(what, "bound") == 0) {
-        print_bound(&s);
+    if (strncmp(what, "bound", 5) == 0) {
+        print_bound(&s, gathered);
         return 0;
     }
     fill_table(&s, &plan, table);

@@ -1,8 +1,9 @@
 // The report as one would write it by hand in C, to compare with. A program that includes this has a way to fill the table.
 //
-//     PROGRAM report|table|sampling|read < SHEET
+//     PROGRAM report|bound|bound-twin|table|sampling|quick|quick-twin|read < SHEET
 //
-// `report` prints what the proved report prints. The others print one number: the idle ticks, the sampling figure, the task count.
+// `report` and `bound` print what the proved programs of these names print. The others print one number: the idle ticks, the sampling
+// figure, the bound without a table, the task count. With `-twin` the tasks that outrank one are gathered before they are gone over.
 #include <stdbool.h>
 #include <stdint.h>
 #include <stdio.h>
@@ -180,6 +181,72 @@ static uint32_t sampling_bound(const struct sheet *s, const uint32_t *greatest) 
     return ticks + greatest[p];
 }
 
+// The response of a task by the recurrence, or a value past its period.
+static uint32_t climb(const struct sheet *s, uint32_t i) {
+    struct task own = s->tasks[i];
+    uint32_t value = own.budget;
+    while (value <= own.period) {
+        uint32_t next = own.budget;
+        for (uint32_t j = 0; j < s->count; j++) {
+            struct task t = s->tasks[j];
+            if (own.rank < t.rank)
+                next += t.budget * ((value + (t.period - 1)) / t.period);
+        }
+        if (next == value)
+            break;
+        value = next;
+    }
+    return value;
+}
+
+// The same, with those that outrank it gathered once, as ours does.
+static uint32_t climb_gathered(const struct sheet *s, uint32_t i) {
+    struct task own = s->tasks[i];
+    uint32_t periods[MOST_TASKS], budgets[MOST_TASKS], size = 0;
+    for (uint32_t j = 0; j < s->count; j++)
+        if (own.rank < s->tasks[j].rank) {
+            periods[size] = s->tasks[j].period;
+            budgets[size] = s->tasks[j].budget;
+            size++;
+        }
+    uint32_t value = own.budget;
+    while (value <= own.period) {
+        uint32_t next = own.budget;
+        for (uint32_t p = 0; p < size; p++)
+            next += budgets[p] * ((value + (periods[p] - 1)) / periods[p]);
+        if (next == value)
+            break;
+        value = next;
+    }
+    return value;
+}
+
+// The bound from a flag on, and the response of each task.
+static uint32_t quick_bound(const struct sheet *s, bool gathered, uint32_t *responses) {
+    int late = -1;
+    for (uint32_t i = 0; i < s->count; i++) {
+        responses[i] = gathered ? climb_gathered(s, i) : climb(s, i);
+        if (s->tasks[i].period < responses[i] && (late < 0 || s->tasks[late].rank < s->tasks[i].rank))
+            late = i;
+    }
+    if (0 <= late) {
+        printf("refused 15 task %d\n", late);
+        exit(0);
+    }
+    return sampling_bound(s, responses) + (s->tasks[s->chain[0]].period - 1);
+}
+
+static void print_bound(const struct sheet *s, bool gathered) {
+    uint32_t responses[MOST_TASKS];
+    uint32_t ticks = quick_bound(s, gathered, responses);
+    for (uint32_t i = 0; i < s->count; i++)
+        printf("task %u response %u\n", i, responses[i]);
+    printf("chain");
+    for (uint32_t i = 0; i < s->length; i++)
+        printf(" %u", s->chain[i]);
+    printf("\nbound %u\n", ticks);
+}
+
 static void print_report(const struct sheet *s, const struct plan *plan) {
     uint32_t greatest[MOST_TASKS];
     printf("tasks %u hyperperiod %u jobs %u idle %u\n", s->count, plan->hyperperiod, plan->jobs, plan->idle);
@@ -208,6 +275,16 @@ int main(int count, char **words) {
     read_sheet(input, fread(input, 1, sizeof input, stdin), &s);
     if (strcmp(what, "read") == 0) {
         printf("%u\n", s.count);
+        return 0;
+    }
+    bool gathered = strstr(what, "-twin") != NULL;
+    if (strncmp(what, "quick", 5) == 0) {
+        uint32_t responses[MOST_TASKS];
+        printf("%u\n", quick_bound(&s, gathered, responses));
+        return 0;
+    }
+    if (strncmp(what, "bound", 5) == 0) {
+        print_bound(&s, gathered);
         return 0;
     }
     fill_table(&s, &plan, table);

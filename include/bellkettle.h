@@ -43,7 +43,8 @@
  *   12  the release asked for is not a multiple of the first chain task's T, or is H or more
  *   13  the limit is over 4,000,000
  *   14  the lent table has fewer than J entries, or the lent buffer fewer bytes than the sheet takes
- *   15  a task is late: with every budget used up, a job of it released before H is unfinished at its next release
+ *   15  a task is late: with every budget used up, a job of it released before H is unfinished at its next release; to
+ *       bellkettle_quick_bound, which knows no H, a job released at any time
  *
  * Of several one is given: 1 to 9 are judged front to back, each field when it is read, and 10 to 15 after them in this order.
  *
@@ -113,6 +114,14 @@ uint8_t bellkettle_default_margin(const uint8_t *sheet, size_t sheet_length,
 uint8_t bellkettle_figures(const uint8_t *sheet, size_t sheet_length,
                            uint32_t *table, size_t table_length,
                            int64_t *values, size_t values_length);
+
+/*
+ * The bound with no table and no schedule, from periods, budgets and ranks alone, whatever H and J are. values: the sampling bound, and
+ * the bound from a flag. Where bellkettle_figures answers these are its numbers; where it refuses with 15, so does this, with the same task.
+ * Refuses 1 to 9, 15.
+ */
+uint8_t bellkettle_quick_bound(const uint8_t *sheet, size_t sheet_length,
+                               int64_t *values, size_t values_length);
 
 /*
  * The fields in a sheet's bytes. values: n and m. Refuses 1 to 9, and then writes the offset alone. Else task i's period, budget and

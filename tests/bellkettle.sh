@@ -45,7 +45,7 @@ leaves_nothing() { [ -z "$(ls -A "$TMPDIR")" ] || wrong "left behind: $(ls -A "$
 
 # What is explained
 
-./bellkettle report samples/radio.sheet >/dev/null 2>&1 # the program stands there from here on
+for program in report bound; do ./bellkettle $program samples/radio.sheet >/dev/null 2>&1; done # they stand there from here on
 try 'no command' ./bellkettle
 ends 0 && says_nothing && cp "$room/out" "$room/all"
 for command in tools/commands/*; do
@@ -77,49 +77,71 @@ try 'help for no command' ./bellkettle help reprot
 refuses_use "there is no command 'reprot'"
 try 'no such option' ./bellkettle --reprot
 refuses_use "there is no option '--reprot'"
-try 'an option that report does not have' ./bellkettle report --verbose
-refuses_use "report has no option '--verbose'"
-try 'two sheets' ./bellkettle report samples/radio.sheet samples/trio.sheet
-refuses_use 'report takes one sheet, and 2 were given'
+for command in report bound; do
+    try "an option that $command does not have" ./bellkettle $command --verbose
+    refuses_use "$command has no option '--verbose'"
+    try "$command: two sheets" ./bellkettle $command samples/radio.sheet samples/trio.sheet
+    refuses_use "$command takes one sheet, and 2 were given"
+done
 try 'version of something' ./bellkettle --version report
 refuses_use '--version takes nothing more'
 
 # An answer, and refusals in words
 
-try 'a sheet' ./bellkettle report samples/radio.sheet
-ends 0 && says_nothing && prints samples/radio.report
-try 'a sheet on standard input' sh -c './bellkettle report <samples/radio.sheet'
-ends 0 && says_nothing && prints samples/radio.report
+for command in report bound; do
+    try "$command: a sheet" ./bellkettle $command samples/radio.sheet
+    ends 0 && says_nothing && prints samples/radio.$command
+    try "$command: a sheet on standard input" sh -c "./bellkettle $command <samples/radio.sheet"
+    ends 0 && says_nothing && prints samples/radio.$command
+done
 
 sed -n '/^## Refusals/,/^## [^R]/p' README.md | grep '^| [0-9]' >"$room/table"
 cmp "$room/table" tools/refusals.txt || { echo 'tests/bellkettle.sh: the refusals of README.md and tools/refusals.txt are not the same' && exit 1; }
+
+refused_in_words() { # COMMAND SHEET NUMBER BECAUSE REMEDY
+    try "$1 $2" ./bellkettle "$1" "$2"
+    ends 1 && prints "${2%.sheet}.$1"
+    task=$(sed -n 's/.* task //p' "$room/out")
+    bit=$(sed -n 's/.* bit //p' "$room/out")
+    case $3:$bit in [1-9]:) wrong 'a bit expected' ;; esac
+    place=${bit:+"at bit $bit (bit $((bit % 8)) of byte $((bit / 8)), counted from 0): "}
+    sentence="$(echo "$4" | sed "s/task i /task $task /"); $5"
+    [ "$(cat "$room/err")" = "bellkettle: $2: $place$sentence" ] || wrong 'the place and the sentence of the table expected'
+}
+
 while IFS='|' read -r _ number because remedy _; do
     number=${number# } because=${because# } remedy=${remedy# }
     number=${number% } because=${because% } remedy=${remedy% }
     for sheet in samples/refused-"$number"-*.sheet; do
-        try "$sheet" ./bellkettle report "$sheet"
-        ends 1 && prints "${sheet%.sheet}.report"
-        task=$(sed -n 's/.* task //p' "$room/out")
-        bit=$(sed -n 's/.* bit //p' "$room/out")
-        case $number:$bit in [1-9]:) wrong 'a bit expected' ;; esac
-        place=${bit:+"at bit $bit (bit $((bit % 8)) of byte $((bit / 8)), counted from 0): "}
-        sentence="$(echo "$because" | sed "s/task i /task $task /"); $remedy"
-        [ "$(cat "$room/err")" = "bellkettle: $sheet: $place$sentence" ] || wrong 'the place and the sentence of the table expected'
+        refused_in_words report "$sheet" "$number" "$because" "$remedy"
+        case $number in
+        10 | 11)
+            grep -q "bellkettle bound\$" "$room/err" || wrong 'the command expected that answers such a sheet'
+            try "bound $sheet" ./bellkettle bound "$sheet"
+            ends 0 && says_nothing && prints "${sheet%.sheet}.bound"
+            ;;
+        *) refused_in_words bound "$sheet" "$number" "$because" "$remedy" ;;
+        esac
     done
 done <tools/refusals.txt
-try 'a late task' ./bellkettle report samples/refused-15-late.sheet
-says '^bellkettle: samples/refused-15-late.sheet: task 1 is late: '
-try 'a bad budget' ./bellkettle report samples/refused-4-budget.sheet
-says '^bellkettle: samples/refused-4-budget.sheet: at bit 22 (bit 6 of byte 2, counted from 0): a budget is 0 or over its period; '
-try 'no bytes' sh -c './bellkettle report </dev/null'
-ends 1 && prints samples/refused-1-empty.report && says '^bellkettle: standard input: at bit 0 (.*): the bytes end inside a field; '
-try 'bytes without an end' ./bellkettle report /dev/zero
-ends 1 && prints samples/refused-2-count.report
+for command in report bound; do
+    try "$command: a late task" ./bellkettle $command samples/refused-15-late.sheet
+    says '^bellkettle: samples/refused-15-late.sheet: task 1 is late: '
+    try "$command: a bad budget" ./bellkettle $command samples/refused-4-budget.sheet
+    says '^bellkettle: samples/refused-4-budget.sheet: at bit 22 (bit 6 of byte 2, counted from 0): a budget is 0 or over its period; '
+    try "$command: no bytes" sh -c "./bellkettle $command </dev/null"
+    ends 1 && prints samples/refused-1-empty.$command && says '^bellkettle: standard input: at bit 0 (.*): the bytes end inside a field; '
+    try "$command: bytes without an end" ./bellkettle $command /dev/zero
+    ends 1 && prints samples/refused-2-count.$command
+done
+try 'a late task beyond any hyperperiod' ./bellkettle bound samples/odd-late.sheet
+ends 1 && prints samples/odd-late.bound && says '^bellkettle: samples/odd-late.sheet: task 2 is late: '
 
-# README's report, line by line.
-while read -r line; do
+# README's report and its bound, line by line, and what is said of the sheet that has no report.
+try 'the sheet whose bound README prints' ./bellkettle report samples/odd.sheet
+cat samples/radio.report samples/odd.bound "$room/out" "$room/err" | while read -r line; do
     grep -qxF "    $line" README.md || wrong "README.md expected to print: $line"
-done <samples/radio.report
+done
 
 # README's sheet that is mended: its bytes before and after, what is printed of it and what is said.
 try 'the sheet that README mends' ./bellkettle report samples/refused-4-mistyped.sheet
@@ -132,17 +154,20 @@ done
 
 # Something outside went wrong
 
-try 'no such file' ./bellkettle report samples/nothing.sheet
-fails 'samples/nothing.sheet: there is no such file; '
-try 'a folder' ./bellkettle report samples
-fails 'samples: this is a folder; '
-try 'a folder on standard input' sh -c './bellkettle report <samples'
-fails 'standard input: it cannot be read (Is a directory); '
-try 'a closed input' sh -c './bellkettle report <&-'
-fails 'standard input: it is closed; '
-try 'an input that is only written' sh -c './bellkettle report 0>/dev/null'
-fails 'standard input: it cannot be read ('
-for words in 'report samples/radio.sheet' 'report samples/refused-2-count.sheet' --help 'help report' --version; do
+for command in report bound; do
+    try "$command: no such file" ./bellkettle $command samples/nothing.sheet
+    fails 'samples/nothing.sheet: there is no such file; '
+    try "$command: a folder" ./bellkettle $command samples
+    fails 'samples: this is a folder; '
+    try "$command: a folder on standard input" sh -c "./bellkettle $command <samples"
+    fails 'standard input: it cannot be read (Is a directory); '
+    try "$command: a closed input" sh -c "./bellkettle $command <&-"
+    fails 'standard input: it is closed; '
+    try "$command: an input that is only written" sh -c "./bellkettle $command 0>/dev/null"
+    fails 'standard input: it cannot be read ('
+done
+for words in 'report samples/radio.sheet' 'report samples/refused-2-count.sheet' 'bound samples/odd.sheet' 'bound samples/refused-2-count.sheet' \
+    --help 'help report' 'help bound' --version; do
     try "$words, to a full disk" sh -c "./bellkettle $words >/dev/full"
     fails 'standard output: not all could be written there; '
     try "$words, to a closed output" sh -c "./bellkettle $words >&-"

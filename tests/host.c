@@ -100,8 +100,8 @@ static void expect_marked(const char *sheet, size_t value, size_t entry) {
     expect(sheet, "entries touched that are not to be", (int64_t)touched, 0);
 }
 
-/* The seven calls that fill a table, in one form. */
-enum call { RESPONSES, DELAY, SAMPLING, BOUND, MARGIN, DEFAULT_MARGIN, FIGURES };
+/* The seven calls that fill a table and the one that is lent none, in one form. */
+enum call { RESPONSES, DELAY, SAMPLING, BOUND, MARGIN, DEFAULT_MARGIN, FIGURES, QUICK_BOUND };
 
 static uint8_t ask(enum call call, const uint8_t *sheet, size_t length, uint32_t number, size_t room, size_t places) {
     switch (call) {
@@ -111,7 +111,8 @@ static uint8_t ask(enum call call, const uint8_t *sheet, size_t length, uint32_t
     case BOUND: return bellkettle_bound(sheet, length, table, room, values, places);
     case MARGIN: return bellkettle_margin(sheet, length, number, table, room, values, places);
     case DEFAULT_MARGIN: return bellkettle_default_margin(sheet, length, table, room, values, places);
-    default: return bellkettle_figures(sheet, length, table, room, values, places);
+    case FIGURES: return bellkettle_figures(sheet, length, table, room, values, places);
+    default: return bellkettle_quick_bound(sheet, length, values, places);
     }
 }
 
@@ -137,15 +138,16 @@ static void expect_bit(const char *name, int bit) {
     expect_marked(name, bit != NO_BIT ? 1 : 0, 0);
 }
 
-/* A refusal of 1 to 14 by any of the seven. */
+/* A refusal of 1 to 14 by any of the eight. */
 static void expect_refused(const char *name, enum call call, const uint8_t *sheet, size_t length, uint32_t number, size_t room, uint8_t refusal, int bit) {
     mark();
     expect(name, "the refusal", ask(call, sheet, length, number, room, VALUES), refusal);
     expect_bit(name, bit);
 }
 
+/* By all that can give it: 10 to 14 come of a table. */
 static void expect_all_refuse(const char *name, const uint8_t *sheet, size_t length, size_t room, uint8_t refusal, int bit) {
-    for (enum call call = RESPONSES; call <= FIGURES; call++) {
+    for (enum call call = RESPONSES; call <= (refusal < 10 ? QUICK_BOUND : FIGURES); call++) {
         expect_refused(name, call, sheet, length, 0, room, refusal, bit);
     }
 }
@@ -229,6 +231,25 @@ static void expect_sheet(const struct fields *f, size_t jobs) {
     expect_all_refuse(f->name, sheet.at, size_of(&sheet), jobs - 1, 14, NO_BIT);
 }
 
+/* The bounds with no table. */
+static void expect_quick_bound(const struct fields *f, int64_t sampling, int64_t bound) {
+    expect_given(f, QUICK_BOUND, 0, 0, NULL, 2, (int64_t[]){sampling, bound});
+    expect_given(f, QUICK_BOUND, 0, 0, NULL, 1, (int64_t[]){sampling});
+    expect_given(f, QUICK_BOUND, 0, 0, NULL, 0, NULL);
+}
+
+static void expect_quick_late(const struct fields *f, int64_t task) {
+    struct bytes sheet = pack(f);
+    for (size_t places = 0; places < 3; places++) {
+        mark();
+        expect(f->name, "the refusal", ask(QUICK_BOUND, sheet.at, size_of(&sheet), 0, 0, places), 15);
+        if (places > 0) {
+            expect(f->name, "the task", values[0], task);
+        }
+        expect_marked(f->name, places > 0 ? 1 : 0, 0);
+    }
+}
+
 static const struct fields trio = {"Trio", 3, {8, 2, 4}, {1, 1, 1}, {1, 3, 2}, 3, {0, 1, 2}};
 static const struct fields radio = {"Radio", 3, {20, 6, 12}, {5, 1, 3}, {1, 3, 2}, 3, {0, 1, 2}};
 static const struct fields radio_short = {"Radio, chain 0 1", 3, {20, 6, 12}, {5, 1, 3}, {1, 3, 2}, 2, {0, 1}};
@@ -242,6 +263,10 @@ static const struct fields late = {"a late task", 2, {2, 3}, {1, 2}, {2, 1}, 1, 
 static const struct fields longest = {"periods 1,000 and 999", 2, {1000, 999}, {1, 1}, {2, 1}, 1, {0}};
 static const struct fields too_long = {"periods 1,000 and 1,001", 2, {1000, 1001}, {1, 1}, {2, 1}, 1, {0}};
 static const struct fields most_jobs = {"periods 2 and 16,382", 2, {2, 16382}, {1, 1}, {2, 1}, 1, {0}};
+static const struct fields odd = {"periods 997, 1,009 and 1,013", 3, {997, 1009, 1013}, {100, 200, 300}, {3, 2, 1}, 3, {2, 1, 0}};
+static const struct fields just_fits = {"a task that just fits", 3, {997, 1009, 1013}, {12, 3, 983}, {3, 2, 1}, 1, {2}};
+static const struct fields just_late = {"a task that just does not", 3, {997, 1009, 1013}, {12, 3, 984}, {3, 2, 1}, 1, {2}};
+static const struct fields two_late = {"two late tasks", 3, {10, 3, 2}, {6, 1, 2}, {1, 2, 3}, 1, {0}};
 static const struct fields too_many = {"periods 2 and 16,384", 2, {2, 16384}, {1, 1}, {2, 1}, 1, {0}};
 
 static void document_one(void) {
@@ -251,6 +276,7 @@ static void document_one(void) {
     expect_given(&trio, SAMPLING, 0, 7, rows, 2, (int64_t[]){6, 0});
     expect_given(&trio, BOUND, 0, 7, rows, 1, (int64_t[]){8});
     expect_given(&trio, FIGURES, 0, 7, rows, 9, (int64_t[]){8, 7, 1, 6, 0, 8, 13, 15, 987});
+    expect_quick_bound(&trio, 8, 15);
 }
 
 static void document_two_and_three(void) {
@@ -268,6 +294,7 @@ static void document_two_and_three(void) {
     expect_given(&radio, MARGIN, 0, 18, rows, 1, (int64_t[]){-39});
     expect_given(&radio, MARGIN, 4000000, 18, rows, 1, (int64_t[]){3999961});
     expect_given(&radio, FIGURES, 0, 18, rows, 9, (int64_t[]){60, 18, 20, 20, 20, 24, 39, 43, 961});
+    expect_quick_bound(&radio, 24, 43);
 
     expect_sheet(&radio_short, 18);
     expect_given(&radio_short, DELAY, 0, 18, rows, 1, (int64_t[]){13});
@@ -276,6 +303,7 @@ static void document_two_and_three(void) {
     expect_given(&radio_short, SAMPLING, 0, 18, rows, 2, (int64_t[]){13, 0});
     expect_given(&radio_short, BOUND, 0, 18, rows, 1, (int64_t[]){15});
     expect_given(&radio_short, FIGURES, 0, 18, rows, 9, (int64_t[]){60, 18, 20, 13, 0, 15, 32, 34, 968});
+    expect_quick_bound(&radio_short, 15, 34);
 }
 
 static void document_four_to_six(void) {
@@ -283,6 +311,7 @@ static void document_four_to_six(void) {
     expect_given(&quartet, SAMPLING, 0, 5, NULL, 2, (int64_t[]){8, 3});
     expect_given(&quartet, BOUND, 0, 5, NULL, 1, (int64_t[]){8});
     expect_given(&quartet, FIGURES, 0, 5, NULL, 9, (int64_t[]){6, 5, 1, 8, 3, 8, 10, 10, 990});
+    expect_quick_bound(&quartet, 8, 10);
 
     const uint8_t printed[] = {0x08, 0x00, 0x14, 0x00, 0x0A, 0x02, 0x10};
     expect_sheet(&lone, 1);
@@ -290,6 +319,7 @@ static void document_four_to_six(void) {
     expect_given(&lone, SAMPLING, 0, 1, (uint32_t[]){5}, 2, (int64_t[]){5, 0});
     expect_given(&lone, BOUND, 0, 1, (uint32_t[]){5}, 1, (int64_t[]){5});
     expect_given(&lone, FIGURES, 0, 1, (uint32_t[]){5}, 9, (int64_t[]){5, 1, 0, 5, 0, 5, 9, 9, 991});
+    expect_quick_bound(&lone, 5, 9);
 
     expect_bad_field(&budget_over, 4, 22);
 }
@@ -311,6 +341,7 @@ static void document_seven(void) {
             expect_marked(late.name, places, 5);
         }
     }
+    expect_quick_late(&late, 1);
 }
 
 static void document_eight_to_ten(void) {
@@ -326,6 +357,10 @@ static void document_eight_to_ten(void) {
     expect_all_refuse(too_long.name, sheet.at, size_of(&sheet), 0, 10, NO_BIT);
     sheet = pack(&too_many);
     expect_all_refuse(too_many.name, sheet.at, size_of(&sheet), 0, 11, NO_BIT);
+    expect_quick_bound(&longest, 1, 1000);
+    expect_quick_bound(&too_long, 1, 1000);
+    expect_quick_bound(&most_jobs, 1, 2);
+    expect_quick_bound(&too_many, 1, 2);
 
     sheet = pack(&lone);
     expect_all_refuse("no bytes", NULL, 0, 1, 1, 0);
@@ -478,6 +513,18 @@ static void margin_below_zero(void) {
     expect_given(&slow, FIGURES, 0, 1, (uint32_t[]){2000}, 9, (int64_t[]){5000, 1, 3000, 2000, 0, 2000, 6999, 6999, -5999});
 }
 
+/* No H is found: 997, 1,009 and 1,013 have no common divisor, so a pair adds T - 1 of its second task and R of its first. */
+static void odd_periods(void) {
+    struct bytes sheet = pack(&odd);
+    expect_all_refuse(odd.name, sheet.at, size_of(&sheet), BELLKETTLE_TABLE, 10, NO_BIT);
+    expect_quick_bound(&odd, 600 + 1008 + 300 + 996 + 100, 3004 + 1012);
+    expect_quick_bound(&just_fits, 1013, 1013 + 1012);
+    expect_quick_late(&just_late, 2);
+    expect_quick_late(&two_late, 1);
+    expect("nothing lent", "the number returned", bellkettle_quick_bound(sheet.at, size_of(&sheet), NULL, 0), 0);
+    expect("no place for the bit", "the refusal", bellkettle_quick_bound(NULL, 0, NULL, 0), 1);
+}
+
 /* Lent memory that is short or none gets as much as it has places for. */
 static void short_memory(void) {
     struct bytes sheet = pack(&radio);
@@ -513,6 +560,7 @@ int main(void) {
     refusals_of_numbers();
     first_periods();
     margin_below_zero();
+    odd_periods();
     short_memory();
     printf("host: %u checks\n", checks);
     return 0;

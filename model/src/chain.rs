@@ -3,7 +3,7 @@
 //! sampling figure.
 
 use crate::schedule::{fill, sizes, Worked};
-use crate::sheet::Memory;
+use crate::sheet::{Memory, Task};
 use crate::Refusal;
 
 /// "The call without a limit uses 1,000 ticks", and so does the report.
@@ -16,6 +16,26 @@ fn multiple_from(step: u32, x: u32) -> u32 {
 
 fn common_divisor(a: u32, b: u32) -> u32 {
     (1..=a.min(b)).rev().find(|d| a % d == 0 && b % d == 0).unwrap()
+}
+
+/// The quick bound of the sampling figure, from periods, ranks and R of each task alone.
+pub fn quick_bound(tasks: &[Task], chain: &[u8], responses: &[u32]) -> u32 {
+    let mut sum = responses[chain[chain.len() - 1] as usize];
+    for pair in chain.windows(2) {
+        let (p, c) = (tasks[pair[0] as usize], tasks[pair[1] as usize]);
+        let g = common_divisor(p.period, c.period);
+        sum += c.period - g;
+        if c.rank > p.rank {
+            sum += multiple_from(g, responses[pair[0] as usize]);
+        }
+    }
+    sum
+}
+
+/// The longest that a flag waits until the first task is released, found by raising one at every tick of a period.
+pub fn wait(tasks: &[Task], chain: &[u8]) -> u32 {
+    let period = tasks[chain[0] as usize].period;
+    (0..period).map(|raised| multiple_from(period, raised) - raised).max().unwrap()
 }
 
 /// What is said of a chain: from the release of a job the sampling figure and its bound, from a flag the worst, its bound and the margin.
@@ -33,10 +53,6 @@ impl Worked {
     fn response(&self, task: u8, release: u32) -> u32 {
         let i = task as usize;
         self.responses[i][(release % self.hyperperiod / self.tasks[i].period) as usize]
-    }
-
-    fn greatest_response(&self, task: u8) -> u32 {
-        *self.responses[task as usize].iter().max().unwrap()
     }
 
     fn next_release(&self, p: u8, c: u8, release: u32) -> u32 {
@@ -66,31 +82,20 @@ impl Worked {
         *delays.iter().find(|d| d.0 == greatest).unwrap()
     }
 
-    /// The quick bound of the sampling figure.
-    pub fn sampling_bound(&self, chain: &[u8]) -> u32 {
-        let mut sum = self.greatest_response(chain[chain.len() - 1]);
-        for pair in chain.windows(2) {
-            let (p, c) = (self.tasks[pair[0] as usize], self.tasks[pair[1] as usize]);
-            let g = common_divisor(p.period, c.period);
-            sum += c.period - g;
-            if c.rank > p.rank {
-                sum += multiple_from(g, self.greatest_response(pair[0]));
-            }
-        }
-        sum
+    /// R of each task.
+    pub fn greatest_responses(&self) -> Vec<u32> {
+        self.responses.iter().map(|row| *row.iter().max().unwrap()).collect()
     }
 
-    /// The longest that a flag waits until the first task is released, found by raising one at every tick of a period.
-    fn wait(&self, chain: &[u8]) -> u32 {
-        let period = self.tasks[chain[0] as usize].period;
-        (0..period).map(|raised| multiple_from(period, raised) - raised).max().unwrap()
+    pub fn sampling_bound(&self, chain: &[u8]) -> u32 {
+        quick_bound(&self.tasks, chain, &self.greatest_responses())
     }
 
     /// "The report's worst and bound now add T − 1 of the first task; every margin now uses that worst."
     pub fn figures(&self, chain: &[u8], limit: u32) -> Figures {
         let (sampling, release) = self.sampling(chain);
         let sampling_bound = self.sampling_bound(chain);
-        let wait = self.wait(chain);
+        let wait = wait(&self.tasks, chain);
         let (worst, bound) = (sampling + wait, sampling_bound + wait);
         Figures { sampling, release, sampling_bound, worst, bound, margin: i64::from(limit) - i64::from(worst) }
     }

@@ -2,8 +2,8 @@
 //! flag raised at every tick.
 
 use crate::random::Random;
-use crate::schedule::{night, sizes, Night, Sizes};
-use crate::sheet::Memory;
+use crate::schedule::{night, sizes, Night};
+use crate::sheet::{Memory, Task};
 
 /// What is claimed of a sheet's chain: from the release of a job the sampling figure and its bound, from a flag the worst and its bound.
 #[derive(Clone, Copy, Debug)]
@@ -68,59 +68,73 @@ fn written_at(night: &Night, chain: &[u8], job: usize) -> Option<u32> {
     chain[1..].iter().try_fold(finish(chain[0], job)?, |written, &task| finish(task, first_from(night, task, written)))
 }
 
-/// Follows every reading through one schedule: none takes longer than the sampling figure, and where ranks rise along the chain the
-/// one released where the claim says takes exactly as long with full budgets.
-fn follow(z: &Sizes, chain: &[u8], ends: &[Option<u32>], claim: Claim, demands: Demands) -> Result<Followed, String> {
-    let period = z.tasks[chain[0] as usize].period;
-    let mut followed = Followed::default();
-    let mut releases_reached = Vec::new();
-    for (job, release) in (0..z.hyperperiod).step_by(period as usize).enumerate() {
-        let latest = release + claim.sampling;
-        if ends[job].map_or(true, |end| end > latest) {
-            return Err(format!("the reading released at {release} is not there at {latest}"));
-        }
-        followed.paths += 1;
-        if ends[job] == Some(latest) {
-            releases_reached.push(release);
-        }
-    }
-    let rising = chain.windows(2).all(|pair| z.tasks[pair[0] as usize].rank < z.tasks[pair[1] as usize].rank);
-    let exact = rising && demands == Demands::Full;
-    if exact && !releases_reached.contains(&claim.release) {
-        return Err(format!("ranks rise, and the reading released at {} takes less than {}", claim.release, claim.sampling));
-    }
-    followed.reached = releases_reached.len() as u64;
-    followed.rising = exact.into();
-    Ok(followed)
+/// A schedule, and when the path from each job of the chain's first task ends.
+struct Drawn {
+    night: Night,
+    ends: Vec<Option<u32>>,
 }
 
-/// Raises a flag at every tick of the first hyperperiod, each by itself. "A change flag raised at tick e is taken by the first job of the
-/// first task that starts at or after e", and none is stamped later than the worst after it.
-fn raise(z: &Sizes, chain: &[u8], night: &Night, ends: &[Option<u32>], claim: Claim) -> Result<Followed, String> {
-    let mut followed = Followed::default();
-    for raised in 0..z.hyperperiod {
-        let latest = raised + claim.worst;
-        let end = ends.get(first_from(night, chain[0], raised)).copied().flatten();
+fn drawn(tasks: &[Task], chain: &[u8], ticks: u32, demands: Demands, random: &mut Random) -> Drawn {
+    let night = night(tasks, ticks, |i, _| demands.of_job(tasks[i].budget, random));
+    let jobs = night.starts[chain[0] as usize].len();
+    let ends = (0..jobs).map(|job| written_at(&night, chain, job)).collect();
+    Drawn { night, ends }
+}
+
+/// Follows the readings that are released every period in so many ticks: none takes longer than is claimed. Answers the releases of all,
+/// and of those that take as long.
+fn follow(d: &Drawn, period: u32, ticks: u32, longest: u32) -> Result<(Vec<u32>, Vec<u32>), String> {
+    let releases: Vec<u32> = (0..ticks).step_by(period as usize).collect();
+    let mut reached = Vec::new();
+    for (job, &release) in releases.iter().enumerate() {
+        let latest = release + longest;
+        if d.ends[job].map_or(true, |end| end > latest) {
+            return Err(format!("the reading released at {release} is not there at {latest}"));
+        }
+        if d.ends[job] == Some(latest) {
+            reached.push(release);
+        }
+    }
+    Ok((releases, reached))
+}
+
+/// Raises a flag at each of so many ticks, each by itself. "A change flag raised at tick e is taken by the first job of the first task that
+/// starts at or after e", and none is stamped later than is claimed. Answers how many are stamped as late.
+fn raise(d: &Drawn, first: u8, ticks: u32, longest: u32) -> Result<u64, String> {
+    let mut as_late = 0;
+    for raised in 0..ticks {
+        let latest = raised + longest;
+        let end = d.ends.get(first_from(&d.night, first, raised)).copied().flatten();
         if end.map_or(true, |end| end > latest) {
             return Err(format!("the flag raised at {raised} is not stamped at {latest}"));
         }
-        followed.flags += 1;
-        followed.latest += u64::from(end == Some(latest));
+        as_late += u64::from(end == Some(latest));
     }
-    Ok(followed)
+    Ok(as_late)
 }
 
-/// One schedule that is long enough for every path that a claim allows.
+/// Where ranks rise along the chain, the reading released where the claim says takes exactly as long as the sampling figure with full
+/// budgets.
 fn try_demands(s: &Memory, claim: Claim, demands: Demands, random: &mut Random) -> Result<Followed, String> {
     let z = sizes(s).map_err(|r| r.to_string())?;
     let chain = &s.chain[..s.length as usize];
-    let night = night(&z.tasks, 2 * z.hyperperiod + claim.worst, |i, _| demands.of_job(z.tasks[i].budget, random));
-    let jobs = night.starts[chain[0] as usize].len();
-    let ends: Vec<Option<u32>> = (0..jobs).map(|job| written_at(&night, chain, job)).collect();
-    let mut sum = follow(&z, chain, &ends, claim, demands)?;
-    sum.add(&raise(&z, chain, &night, &ends, claim)?);
-    Ok(sum)
+    let d = drawn(&z.tasks, chain, 2 * z.hyperperiod + claim.worst, demands, random);
+    let (releases, reached) = follow(&d, z.tasks[chain[0] as usize].period, z.hyperperiod, claim.sampling)?;
+    let rising = chain.windows(2).all(|pair| z.tasks[pair[0] as usize].rank < z.tasks[pair[1] as usize].rank);
+    let exact = rising && demands == Demands::Full;
+    if exact && !reached.contains(&claim.release) {
+        return Err(format!("ranks rise, and the reading released at {} takes less than {}", claim.release, claim.sampling));
+    }
+    Ok(Followed {
+        paths: releases.len() as u64,
+        reached: reached.len() as u64,
+        rising: exact.into(),
+        flags: z.hyperperiod.into(),
+        latest: raise(&d, chain[0], z.hyperperiod, claim.worst)?,
+    })
 }
+
+const EACH: [Demands; 5] = [Demands::Full, Demands::Least, Demands::Any, Demands::Any, Demands::Extremes];
 
 /// Holds a claim on an accepted sheet to schedules with full budgets, with one tick each, and with demands by chance.
 pub fn experiment(s: &Memory, claim: Claim, random: &mut Random) -> Result<Followed, String> {
@@ -130,8 +144,24 @@ pub fn experiment(s: &Memory, claim: Claim, random: &mut Random) -> Result<Follo
         }
     }
     let mut sum = Followed::default();
-    for demands in [Demands::Full, Demands::Least, Demands::Any, Demands::Any, Demands::Extremes] {
+    for demands in EACH {
         sum.add(&try_demands(s, claim, demands, random).map_err(|trouble| format!("{demands:?} demands: {trouble}"))?);
+    }
+    Ok(sum)
+}
+
+/// Holds the bounds that are claimed of a sheet of any hyperperiod, from a release and from a flag, to the first ticks of such schedules.
+pub fn experiment_with_bounds(s: &Memory, sampling_bound: u32, bound: u32, random: &mut Random) -> Result<Followed, String> {
+    let (tasks, chain) = (&s.tasks[..s.count as usize], &s.chain[..s.length as usize]);
+    let ticks = 3 * tasks.iter().map(|t| t.period).max().unwrap();
+    let mut sum = Followed::default();
+    for demands in EACH {
+        let d = drawn(tasks, chain, ticks + bound, demands, random);
+        let trouble = |trouble| format!("{demands:?} demands: {trouble}");
+        let (releases, reached) = follow(&d, tasks[chain[0] as usize].period, ticks, sampling_bound).map_err(trouble)?;
+        let latest = raise(&d, chain[0], ticks, bound).map_err(trouble)?;
+        let (paths, reached) = (releases.len() as u64, reached.len() as u64);
+        sum.add(&Followed { paths, reached, rising: 0, flags: ticks.into(), latest });
     }
     Ok(sum)
 }

@@ -2,6 +2,7 @@
 
 use crate::probe::{Call, Handed, Lent, Request, CALLS};
 use crate::random::Random;
+use crate::recurrence::response;
 use crate::schedule::sizes;
 use crate::sheet::{encoded, memory, unjudged, Memory, Task};
 use crate::{arith, chain};
@@ -84,6 +85,38 @@ pub fn sheet(r: &mut Random) -> Memory {
     sheet_of(r, &periods, &budgets)
 }
 
+/// Periods with nothing to do with each other, so that H is mostly out of reach. The model tries every tick of a period, so long ones are rare.
+fn odd_periods(r: &mut Random, n: u32) -> Vec<u32> {
+    let (least, most) = match r.between(0, 19) {
+        0 => (1, 100_000),
+        1..=3 => (3, 40),
+        4..=12 => (50, 400),
+        _ => (990, 1_100),
+    };
+    (0..n).map(|_| r.between(least, most)).collect()
+}
+
+/// The period of the lowest rank made such that its value just fits, or just does not.
+fn tight(r: &mut Random, s: &mut Memory) {
+    let tasks = &s.tasks[..s.count as usize];
+    let low = (0..tasks.len()).min_by_key(|&i| tasks[i].rank).unwrap();
+    if let Some(value) = response(tasks, low) {
+        s.tasks[low].period = value.saturating_sub(r.pick(&[0, 0, 1])).max(tasks[low].budget);
+    }
+}
+
+/// A sheet with nothing wrong in its fields and periods of any kind; some are late.
+pub fn odd_sheet(r: &mut Random) -> Memory {
+    let n = r.between(1, 16);
+    let periods = odd_periods(r, n);
+    let budgets = budgets(r, &periods);
+    let mut s = sheet_of(r, &periods, &budgets);
+    if r.one_in(4) {
+        tight(r, &mut s);
+    }
+    s
+}
+
 /// A sheet at the limits of H, of J or of a field, or one past the limits of H and J.
 pub fn at_a_limit(r: &mut Random) -> Memory {
     let periods = match r.between(0, 9) {
@@ -161,7 +194,11 @@ fn damage(r: &mut Random, bytes: &mut Vec<u8>) {
 
 /// Any sheet: most are well formed, many have a fault or several.
 fn any_sheet(r: &mut Random) -> Memory {
-    let mut s = if r.one_in(20) { at_a_limit(r) } else { sheet(r) };
+    let mut s = match r.between(0, 39) {
+        0 | 1 => at_a_limit(r),
+        2..=5 => odd_sheet(r),
+        _ => sheet(r),
+    };
     if r.one_in(4) {
         for _ in 0..r.pick(&[1, 1, 2, 3]) {
             fault(r, &mut s);
@@ -217,7 +254,7 @@ fn lent(r: &mut Random, call: Call, sheet: &Handed) -> Lent {
             let room = length(r, size);
             Lent::Bytes(r.bytes(room))
         }
-        Call::Judge | Call::Sizes => Lent::Bytes(vec![]),
+        Call::Judge | Call::Sizes | Call::QuickBound => Lent::Bytes(vec![]),
         _ => table(r, seen.and_then(|s| sizes(&s).ok()).map(|z| z.jobs)),
     }
 }

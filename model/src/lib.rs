@@ -8,6 +8,7 @@ pub mod experiment;
 pub mod generate;
 pub mod probe;
 pub mod random;
+pub mod recurrence;
 pub mod report;
 pub mod schedule;
 pub mod sheet;

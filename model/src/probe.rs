@@ -1,5 +1,6 @@
 //! Requests of crates/probe, what the model answers to each, and the probe itself as a process.
 
+use crate::recurrence::quick;
 use crate::schedule::Worked;
 use crate::sheet::{judge, read, write, Memory};
 use crate::{arith, bits, chain, schedule, Refusal};
@@ -29,13 +30,14 @@ pub enum Call {
     Margin,
     DefaultMargin,
     Figures,
+    QuickBound,
 }
 
 use Call::*;
 
-pub const CALLS: [Call; 19] = [
+pub const CALLS: [Call; 20] = [
     Gcd, Lcm, Up, Magnitude, Number, Put, Read, Greatest, Judge, Write, Sizes, Responses, TaskResponses, Delay, Sampling, Bound, Margin,
-    DefaultMargin, Figures,
+    DefaultMargin, Figures, QuickBound,
 ];
 
 impl Call {
@@ -49,6 +51,7 @@ impl Call {
             Responses | TaskResponses | Sampling | Bound | DefaultMargin | Figures => (1..=11).chain([14, 15]).collect(),
             Delay => (1..=12).chain([14, 15]).collect(),
             Margin => (1..=11).chain([13, 14, 15]).collect(),
+            QuickBound => (1..=9).chain([15]).collect(),
         }
     }
 }
@@ -197,10 +200,13 @@ fn totals(w: &Worked) -> Vec<u32> {
 }
 
 /// R of each task, in sixteen places.
+fn sixteen(mut responses: Vec<u32>) -> Vec<u32> {
+    responses.resize(16, 0);
+    responses
+}
+
 fn greatest(w: &Worked) -> Vec<u32> {
-    let mut greatest: Vec<u32> = w.responses.iter().map(|row| *row.iter().max().unwrap()).collect();
-    greatest.resize(16, 0);
-    greatest
+    sixteen(w.greatest_responses())
 }
 
 fn of_sheet(call: Call, number: u32, s: &Memory, buffer: &mut [u8], table: &mut [u32]) -> Told {
@@ -219,6 +225,7 @@ fn of_sheet(call: Call, number: u32, s: &Memory, buffer: &mut [u8], table: &mut 
             let ticks = vec![f.sampling, f.release, f.sampling_bound, f.worst, f.bound];
             [totals(&w), ticks, signed(f.margin), greatest(&w)].concat()
         }),
+        QuickBound => quick(s).map(|q| [vec![q.sampling_bound, q.bound], sixteen(q.responses)].concat()),
         _ => unreachable!("{call:?} takes no sheet"),
     }
 }
@@ -246,7 +253,7 @@ fn told(q: &Request, buffer: &mut [u8], table: &mut [u32]) -> Told {
 fn values_of_a_refusal(q: &Request) -> Vec<u32> {
     match q.call {
         Read => sheet_values(&Memory::default()),
-        TaskResponses | Figures if q.sheet.memory().is_some() => vec![0; 16],
+        TaskResponses | Figures | QuickBound if q.sheet.memory().is_some() => vec![0; 16],
         _ => vec![],
     }
 }

@@ -1,6 +1,7 @@
 //! Requests that are always made of the probe: document 01's sheets, both ends of each range, every place where bytes may end, each
 //! refusal alone, at the first and at the last place where it can occur, and beside another, tables and buffers that are too short by
-//! one, exact and longer, and every call on every sample and on every bad field in memory.
+//! one, exact and longer, sheets for which only the quick bound without a table is answered, and every call on every sample and on
+//! every bad field in memory.
 
 use crate::probe::{Call, Handed, Lent, Request};
 use crate::schedule::{responses, sizes};
@@ -8,7 +9,7 @@ use crate::sheet::{encoded, memory, packed, raw_bits, read, unjudged, Memory, Ta
 use Call::*;
 
 pub fn requests() -> Vec<Request> {
-    [numbers_and_bits(), readings(), sheets_in_memory(), tables(), chains(), samples()].concat()
+    [numbers_and_bits(), readings(), sheets_in_memory(), tables(), chains(), without_a_table(), samples()].concat()
 }
 
 // Parts of requests
@@ -418,6 +419,82 @@ fn chains() -> Vec<Request> {
     asked.map(|(call, number, s, room)| request(call, [number, 0, 0], Handed::Memory(s), table(room, &[7]))).collect()
 }
 
+// The quick bound without a table: odd periods, values that just fit, long climbs, the ends of ranges, and the order of its refusals
+
+/// Periods and budgets of sixteen tasks, the first ranked highest, for which the searches take the most steps that were found, of a sheet
+/// that is answered: the first tasks leave so little over that a value rises slowly, and stops just before the period.
+pub const LONGEST_CLIMB: [(u32, u32); 16] = [
+    (3, 1), (2, 1), (7, 1), (43, 1), (2_426, 1), (99_998, 3), (100_000, 2), (100_000, 1), (100_000, 1), (100_000, 1), (100_000, 1),
+    (99_999, 1), (99_999, 1), (100_000, 1), (100_000, 1), (100_000, 1),
+];
+
+/// The same of any sheet: the first task leaves nothing over, and each step adds only the budgets of the others.
+pub const LONGEST_LATE_CLIMB: [(u32, u32); 16] = {
+    let mut tasks = [(100_000, 1); 16];
+    tasks[0] = (1, 1);
+    tasks
+};
+
+/// Tasks of which each ranks below the one before it, with a chain of all that begins with the lowest.
+pub fn falling(tasks: &[(u32, u32)]) -> Memory {
+    let tasks: Vec<_> = tasks.iter().zip((0..16).rev()).map(|(&(period, budget), rank)| (period, budget, rank)).collect();
+    sheet(&tasks, &(0..tasks.len() as u8).rev().collect::<Vec<_>>())
+}
+
+fn without_a_table() -> Vec<Request> {
+    let odd = |a, b, c, chain: &[u8]| sheet(&[(997, a, 3), (1_009, b, 2), (1_013, c, 1)], chain);
+    let radio = [(20, 5, 1), (6, 1, 3), (12, 3, 2)];
+    let pair = |a, b| sheet(&[(a, 1, 2), (b, 1, 1)], &[0]);
+    let alike = |period, budget| falling(&[(period, budget); 16]);
+    // Primes below 100,000: each pair of neighbours adds the most that it can.
+    let primes = [99_991, 99_989, 99_971, 99_961, 99_929, 99_923, 99_907, 99_901, 99_881, 99_877, 99_871, 99_859, 99_839, 99_833, 99_829, 99_823];
+    let sheets = vec![
+        odd(100, 200, 300, &[0, 1, 2]),
+        odd(100, 200, 300, &[2, 1, 0]),
+        odd(100, 200, 300, &[1]),
+        odd(1, 1, 1, &[2, 0]),
+        odd(300, 350, 347, &[2, 1, 0]),
+        odd(300, 350, 348, &[2, 1, 0]),
+        odd(12, 3, 983, &[2, 0, 1]),
+        odd(12, 3, 984, &[2, 0, 1]),
+        odd(997, 1, 1, &[0]),
+        sheet(&[(8, 1, 1), (2, 1, 3), (4, 1, 2)], &[0, 1, 2]),
+        sheet(&radio, &[0, 1, 2]),
+        sheet(&radio, &[0, 1]),
+        sheet(&[(6, 1, 4), (6, 1, 3), (3, 1, 2), (6, 1, 1)], &[2, 3]),
+        sheet(&[(5, 5, 1)], &[0]),
+        sheet(&[(5, 6, 1)], &[0]),
+        sheet(&[(2, 1, 2), (3, 2, 1)], &[0]),
+        sheet(&[(2, 1, 2), (4, 2, 1)], &[1, 0]),
+        pair(1_000, 999),
+        pair(1_000, 1_001),
+        pair(2, 16_382),
+        pair(2, 16_384),
+        sheet(&[(1, 1, 0)], &[0]),
+        sheet(&[(1, 1, 255), (100_000, 1, 0)], &[1, 0]),
+        sheet(&[(100_000, 100_000, 255)], &[0]),
+        sheet(&[(100_000, 1, 255)], &[0]),
+        alike(100_000, 1),
+        alike(100_000, 6_250),
+        alike(100_000, 6_251),
+        alike(100_000, 100_000),
+        alike(99_999, 99_999),
+        falling(&primes.map(|period| (period, 1))),
+        falling(&primes.map(|period| (period, 6_238))),
+        falling(&primes.map(|period| (period, 6_240))),
+        falling(&LONGEST_CLIMB),
+        falling(&LONGEST_LATE_CLIMB),
+        // A field before 15, and of two late tasks the greater-ranked, wherever it stands.
+        sheet(&[(2, 1, 2), (3, 2, 1)], &[0, 0]),
+        sheet(&[(2, 1, 2), (3, 2, 2)], &[0]),
+        sheet(&[(3, 1, 2), (10, 6, 1), (2, 2, 3)], &[0]),
+        sheet(&[(10, 6, 1), (3, 1, 2), (2, 2, 3)], &[0]),
+        sheet(&[(2, 2, 3), (10, 6, 1), (3, 1, 2)], &[1]),
+        sheet(&[(1, 1, 3), (1_000, 1, 2), (1_001, 1, 1)], &[0, 1, 2]),
+    ];
+    sheets.into_iter().map(|s| request(QuickBound, [0; 3], Handed::Memory(s), nothing_lent())).collect()
+}
+
 // Every call on every sample, and on sheets in memory
 
 fn samples() -> Vec<Request> {
@@ -455,6 +532,7 @@ fn every_call(sheet: &Handed) -> Vec<Request> {
         with_table(Margin, 8),
         with_table(DefaultMargin, 0),
         with_table(Figures, 0),
+        with(QuickBound, 0, nothing_lent()),
     ]);
     if let Some(Ok(worked)) = sheet.memory().map(|s| responses(&s, &mut vec![0; jobs as usize])) {
         requests.push(request(Greatest, [0; 3], no_sheet(), table(jobs as usize, &worked.responses.concat())));

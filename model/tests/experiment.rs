@@ -2,9 +2,10 @@
 //! chance.
 
 use model::chain::figures;
-use model::experiment::{experiment, first_from, Claim, Followed};
-use model::generate::sheet;
+use model::experiment::{experiment, experiment_with_bounds, first_from, Claim, Followed};
+use model::generate::{odd_sheet, sheet};
 use model::random::Random;
+use model::recurrence::quick;
 use model::schedule::night;
 use model::sheet::{memory, Memory, Task};
 
@@ -93,4 +94,27 @@ fn figures_of_the_model() {
         }
     }
     assert!(sum.flags > 1_000_000 && sum.latest > 0 && sum.rising > 0);
+}
+
+/// Bounds are held to the schedules as figures are: Radio's sampling figure with chain 0 1 is 13, its worst 32.
+#[test]
+fn bounds_too_low() {
+    let bounds = |sampling, bound| experiment_with_bounds(&memory(&tasks(RADIO), &[0, 1]), sampling, bound, &mut Random::new(1));
+    let followed = bounds(TRUE.sampling_bound, TRUE.bound).unwrap();
+    assert_eq!((5 * 3, 5 * 60), (followed.paths, followed.flags));
+    assert!(bounds(12, TRUE.bound).err().unwrap().contains("Full demands: the reading released at 0 is not there at 12"));
+    assert!(bounds(TRUE.sampling_bound, 31).err().unwrap().contains("Full demands: the flag raised at 41 is not stamped at 72"));
+}
+
+/// The model's own quick bounds, of sheets whose hyperperiod is mostly out of reach.
+#[test]
+fn quick_bounds_of_sheets_by_chance() {
+    let mut random = Random::new(8);
+    for _ in 0..200 {
+        let s = odd_sheet(&mut random);
+        let short = s.tasks.iter().all(|t| t.period <= 1_100);
+        if let (true, Ok(q)) = (short, quick(&s)) {
+            experiment_with_bounds(&s, q.sampling_bound, q.bound, &mut random).unwrap();
+        }
+    }
 }

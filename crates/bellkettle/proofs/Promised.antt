@@ -1,7 +1,7 @@
 -- The contract of each call is its promise: what a caller learns of it is the predicate of `Promises`, no more and no less.
 use mathlib.Core.Path.{_≡_, refl}
 use Rattle.bellkettle.specs.declared.Question.{Question}
-use Rattle.bellkettle.specs.Promises.{SheetAsked, SheetRead, SheetWritten}
+use Rattle.bellkettle.specs.Promises.{SheetAsked, QuickAsked, SheetRead, SheetWritten}
 use Rattle.bellkettle.proofs.bellkettle_responses.Reads as bellkettle_responses
 use Rattle.bellkettle.proofs.bellkettle_delay.Reads as bellkettle_delay
 use Rattle.bellkettle.proofs.bellkettle_sampling.Reads as bellkettle_sampling
@@ -9,6 +9,7 @@ use Rattle.bellkettle.proofs.bellkettle_bound.Reads as bellkettle_bound
 use Rattle.bellkettle.proofs.bellkettle_margin.Reads as bellkettle_margin
 use Rattle.bellkettle.proofs.bellkettle_default_margin.Reads as bellkettle_default_margin
 use Rattle.bellkettle.proofs.bellkettle_figures.Reads as bellkettle_figures
+use Rattle.bellkettle.proofs.bellkettle_quick_bound.Reads as bellkettle_quick_bound
 use Rattle.bellkettle.proofs.bellkettle_read.Reads as bellkettle_read
 use Rattle.bellkettle.proofs.bellkettle_write.Reads as bellkettle_write
 
@@ -32,6 +33,9 @@ bellkettle-default-margin-promised = refl
 
 bellkettle-figures-promised : bellkettle_figures.Learnt ≡ (λ κs a r e. SheetAsked Question.Figures (a .0 .now) r (a .1 .1 .0 .now) (e .1 .1 .0 .now) (a .1 .0 .now) (e .1 .0 .now))
 bellkettle-figures-promised = refl
+
+bellkettle-quick-bound-promised : bellkettle_quick_bound.Learnt ≡ (λ κs a r e. QuickAsked (a .0 .now) r (a .1 .0 .now) (e .1 .0 .now))
+bellkettle-quick-bound-promised = refl
 
 bellkettle-read-promised : bellkettle_read.Learnt ≡ (λ κs a r e. SheetRead (a .0 .now) r (a .1 .1 .1 .1 .1 .0 .now) (e .1 .1 .1 .1 .1 .0 .now) (a .1 .0 .now) (e .1 .0 .now) (a .1 .1 .0 .now) (e .1 .1 .0 .now) (a .1 .1 .1 .0 .now) (e .1 .1 .1 .0 .now) (a .1 .1 .1 .1 .0 .now) (e .1 .1 .1 .1 .0 .now))
 bellkettle-read-promised = refl

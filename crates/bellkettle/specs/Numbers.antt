@@ -6,6 +6,8 @@ use Rattle.answers.specs.Answers.{Answer, given, refused, after}
 use Rattle.sheet.specs.declared.Sheet.{Sheet}
 use Rattle.schedule.specs.declared.answer.Totals.{Totals}
 use Rattle.schedule.specs.Calls.{responsesOf}
+use Rattle.recurrence.specs.declared.answer.Bounds.{Bounds}
+use Rattle.recurrence.specs.Calls.{quickOf}
 use Rattle.chain.specs.declared.answer.Figure.{Figure}
 use Rattle.chain.specs.declared.answer.Summary.{Summary}
 use Rattle.chain.specs.Calls.{delayOf, samplingOf, boundOf, marginOf, defaultMarginOf, figuresOf}
@@ -43,6 +45,9 @@ abbrev pub summaryNumbers : Summary → List ℤ
 summaryNumbers s =
     totalsNumbers (s .totals) ++ figureNumbers (s .sampling) ++ alone (s .«sampling_bound») ++ alone (s .worst) ++ alone (s .bound) ++ signed (s .margin)
 
+abbrev pub boundsNumbers : Bounds → List ℤ
+boundsNumbers b = pos (b .«sampling_bound») ∷ pos (b .bound) ∷ []
+
 -- n and m.
 abbrev pub countNumbers : Sheet → List ℤ
 countNumbers s = pos (s .count) ∷ pos (s .length) ∷ []
@@ -56,3 +61,7 @@ answerTo Bound room s = inNumbers alone (boundOf s room)
 answerTo (Margin limit) room s = inNumbers signed (marginOf s limit room)
 answerTo DefaultMargin room s = inNumbers signed (defaultMarginOf s room)
 answerTo Figures room s = inNumbers summaryNumbers (figuresOf s room)
+
+-- What it answers with no table.
+abbrev pub quickTo : Sheet → Answer (List ℤ)
+quickTo s = inNumbers boundsNumbers (quickOf s)

@@ -11,7 +11,7 @@ use Rattle.sheet.specs.Calls.{readOf, writeOf, bufferAfter}
 use Rattle.sheet.specs.Tasks.{tasksOf}
 use Rattle.schedule.specs.Calls.{tableAfter}
 use Rattle.bellkettle.specs.declared.Question.{Question}
-use Rattle.bellkettle.specs.Numbers.{numberOf, valuesOf, inNumbers, alone, countNumbers, answerTo}
+use Rattle.bellkettle.specs.Numbers.{numberOf, valuesOf, inNumbers, alone, countNumbers, answerTo, quickTo}
 use Rattle.bellkettle.specs.Fields.{periodsIn, budgetsIn, ranksIn, entriesIn, sixteen, sheetFrom}
 
 -- The number of an answer is returned, and its values stand at the front of the lent slice, as many as it has places for.
@@ -28,6 +28,13 @@ abbrev pub SheetAsked : Question → List ℕ → ℕ → List ℤ → List ℤ 
 SheetAsked question bytes returned old-values values old-table table =
     Returned (after (readOf bytes) (answerTo question (length old-table))) returned old-values values
     × (table ≡ lentAfter (readOf bytes) (λ s. tableAfter (answerTo question (length old-table) s) (tasksOf s) old-table) old-table)
+
+-- The quick bound is asked of them, with no table.
+abbrev pub quickIn : List ℕ → Answer (List ℤ)
+quickIn bytes = after (readOf bytes) quickTo
+
+abbrev pub QuickAsked : List ℕ → ℕ → List ℤ → List ℤ → Type 0
+QuickAsked bytes returned old-values values = Returned (quickIn bytes) returned old-values values
 
 -- A sheet's bytes are read: n and m, and the fields in their slices.
 abbrev pub countsIn : List ℕ → Answer (List ℤ)

@@ -10,12 +10,13 @@ use Rattle.sheet.specs.declared.Sheet.{Sheet}
 use Rattle.sheet.specs.Calls.{readOf}
 use Rattle.sheet.specs.NumberLaws.{read-numbered, write-numbered}
 use Rattle.schedule.specs.NumberLaws.{responses-numbered}
+use Rattle.recurrence.specs.NumberLaws.{quick-numbered}
 use Rattle.chain.specs.Calls.{defaultLimit}
 use Rattle.chain.specs.NumberLaws.{delay-numbered, sampling-numbered, bound-numbered, margin-numbered, figures-numbered}
 use Rattle.bellkettle.specs.declared.Question.{Question}
 use Rattle.bellkettle.specs.declared.Question.the-variants.{Responses, Delay, Sampling, Bound, Margin, DefaultMargin, Figures}
-use Rattle.bellkettle.specs.Numbers.{numberOf, inNumbers, alone, signed, totalsNumbers, figureNumbers, summaryNumbers, countNumbers, answerTo}
-use Rattle.bellkettle.specs.Promises.{countsIn, sizeFor}
+use Rattle.bellkettle.specs.Numbers.{numberOf, inNumbers, alone, signed, totalsNumbers, figureNumbers, summaryNumbers, boundsNumbers, countNumbers, answerTo, quickTo}
+use Rattle.bellkettle.specs.Promises.{quickIn, countsIn, sizeFor}
 
 -- The number is 0 exactly when the answer is given.
 pub record ZeroWhenGiven (answer : Answer (List ℤ)) : Type 0 where
@@ -47,6 +48,12 @@ asked-zero question bytes room =
     numbered-zero
     (after-numbered (numbered-wider (read-numbered bytes) (omega arith) (omega arith))
     (λ s. numbered-wider (answer-numbered question room s) (omega arith) (omega arith)))
+
+pub quick-zero : (bytes : List ℕ) → ZeroWhenGiven (quickIn bytes)
+quick-zero bytes =
+    numbered-zero
+    (after-numbered {next = quickTo} (numbered-wider (read-numbered bytes) (omega arith) (omega arith))
+    (λ s. numbered-wider (told-numbered boundsNumbers (quick-numbered s)) (omega arith) (omega arith)))
 
 pub read-zero : (bytes : List ℕ) → ZeroWhenGiven (countsIn bytes)
 read-zero bytes = numbered-zero (told-numbered countNumbers (numbered-wider (read-numbered bytes) (omega arith) (omega arith)))

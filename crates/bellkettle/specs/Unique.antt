@@ -4,7 +4,7 @@ use mathlib.Core.List.{List}
 use Prim.Native.Nat.{ℕ}
 use lib.IntN.{ℤ}
 use Rattle.bellkettle.specs.declared.Question.{Question}
-use Rattle.bellkettle.specs.Promises.{SheetAsked, SheetRead, SheetWritten}
+use Rattle.bellkettle.specs.Promises.{SheetAsked, QuickAsked, SheetRead, SheetWritten}
 
 -- Two ends that meet a call's promise are equal: the returned numbers x and y, the values v and w, what is left in the other slices.
 
@@ -15,6 +15,9 @@ module _ (bytes : List ℕ) (x y : ℕ) (values v w : List ℤ) where
   pub asked-unique : (question : Question) (table t u : List ℕ) → SheetAsked question bytes x values v table t → SheetAsked question bytes y values w table u
       → ((x ≡ y) × (v ≡ w)) × (t ≡ u)
   asked-unique question table t u p q = ((same (p .0 .0) (q .0 .0), same (p .0 .1) (q .0 .1)), same (p .1) (q .1))
+
+  pub quick-unique : QuickAsked bytes x values v → QuickAsked bytes y values w → (x ≡ y) × (v ≡ w)
+  quick-unique p q = (same (p .0) (q .0), same (p .1) (q .1))
 
   pub read-unique : (periods p p′ budgets b b′ ranks r r′ chain e e′ : List ℕ)
       → SheetRead bytes x values v periods p budgets b ranks r chain e → SheetRead bytes y values w periods p′ budgets b′ ranks r′ chain e′

@@ -10,6 +10,8 @@ use chain::Figures;
 use chain::Margin;
 use chain::Sampling;
 use chain::Summary;
+use recurrence::Bounds;
+use recurrence::Quick;
 use schedule::Responses;
 use schedule::Totals;
 use sheet::Sheet;
@@ -26,10 +28,11 @@ ghost use Rattle.sheet.specs.Answers.{toldBytes};
 ghost use Rattle.sheet.specs.Tasks.{tasksOf};
 ghost use Rattle.schedule.specs.Calls.{toldTotals};
 ghost use Rattle.schedule.specs.Calls.{tableAfter};
+ghost use Rattle.recurrence.specs.Calls.{toldQuick};
 ghost use Rattle.chain.specs.Calls.{toldDelay, toldSampling, toldBound, toldMargin, toldFigures};
-ghost use Rattle.bellkettle.specs.Numbers.{inNumbers, alone, signed, totalsNumbers, figureNumbers, summaryNumbers, countNumbers, answerTo};
+ghost use Rattle.bellkettle.specs.Numbers.{inNumbers, alone, signed, totalsNumbers, figureNumbers, summaryNumbers, boundsNumbers, countNumbers, answerTo};
 ghost use Rattle.bellkettle.specs.Fields.{periodsIn, budgetsIn, ranksIn, entriesIn, sixteen, counted, tasksCounted, taskFrom, entryFrom, sheetFrom};
-ghost use Rattle.bellkettle.specs.Promises.{SheetAsked, SheetRead, SheetWritten};
+ghost use Rattle.bellkettle.specs.Promises.{SheetAsked, QuickAsked, SheetRead, SheetWritten};
 ghost use Rattle.bellkettle.specs.Replies.{mostValues, valuesTold, Tells, sizeIn};
 
 // What is asked of a sheet.
@@ -110,6 +113,16 @@ fn figure_numbers(f: Figure) -> Reply
         number: 0,
         count: 2,
         values: [wide(f.ticks), wide(f.release), 0, 0, 0, 0, 0, 0, 0],
+    }
+}
+
+fn bounds_numbers(b: Bounds) -> Reply
+    ensures { λ reply. ⌜ Tells reply (given (boundsNumbers b)) ⌝ }
+{
+    Reply {
+        number: 0,
+        count: 2,
+        values: [wide(b.sampling_bound), wide(b.bound), 0, 0, 0, 0, 0, 0, 0],
     }
 }
 
@@ -218,6 +231,15 @@ fn figures_reply(f: Figures) -> Reply
         return refuse(chain::figures_refusal(f));
     };
     summary_numbers(summary)
+}
+
+fn quick_reply(q: Quick) -> Reply
+    ensures { λ reply. ⌜ Tells reply (inNumbers boundsNumbers (toldQuick q)) ⌝ }
+{
+    let Quick::Of(bounds) = q else {
+        return refuse(recurrence::bound_refusal(q));
+    };
+    bounds_numbers(bounds)
 }
 
 fn written_reply(w: Written) -> Reply
@@ -353,6 +375,21 @@ pub extern "C" fn bellkettle_figures(sheet: &[u8], table: &mut [u32], values: &m
     ensures { λ r. ⌜ SheetAsked Question.Figures (now (sheet .entry)) r (now (values .entry)) (now (values .exit)) (now (table .entry)) (now (table .exit)) ⌝ }
 {
     ask(Question::Figures, sheet, &mut *table, &mut *values)
+}
+
+// The quick bound with no table: from a release of the chain's first task on, and from a flag on.
+#[no_mangle]
+pub extern "C" fn bellkettle_quick_bound(sheet: &[u8], values: &mut [i64]) -> u8
+    ensures { λ r. ⌜ QuickAsked (now (sheet .entry)) r (now (values .entry)) (now (values .exit)) ⌝ }
+{
+    let reading = sheet::read(sheet);
+    let verdict = reading.verdict;
+    let Verdict::Fine = verdict else {
+        return hand(refuse(answers::refusal_of(verdict)), &mut *values);
+    };
+    let found = recurrence::bound(reading.sheet);
+    let quick = found.answer;
+    hand(quick_reply(quick), &mut *values)
 }
 
 // A number in its place, if the lent slice has it.

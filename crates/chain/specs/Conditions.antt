@@ -11,6 +11,7 @@ use Rattle.arith.specs.Ranges.{sum, maximum, least}
 use Rattle.theory.specs.Model.Schedule.{period, rank}
 use Rattle.theory.specs.Model.Responses.{jobs}
 use Rattle.theory.specs.Model.Chain.{Chain, Waits, Table, walkNext, walkDelay, walkBound}
+use Rattle.theory.specs.Analysis.Largest.{pairBound}
 use Rattle.sheet.specs.Tasks.{firstOf, restOf}
 use Rattle.schedule.specs.Calls.{mostJobs}
 use Rattle.schedule.specs.Taken.{Taken}
@@ -43,10 +44,6 @@ pub record TakenChain (ts : List Task) (chain : List ℕ) : Type 0 where
   pub tasks : Taken ts
   pub known : Chain ts (firstOf chain) (restOf chain)
   pub few : length chain ≤ 16
-
--- What a pair of neighbours adds to its quick bound.
-abbrev pub pairBound : (ℕ → ℕ) → Waits → (ℕ → ℕ) → ℕ → ℕ → ℕ
-pairBound T waits R p c = (T c - gcd (T p) (T c)) + cond (waits p c) (up (gcd (T p) (T c)) (R p)) 0
 
 -- ---- the plan that the walk reads: of task i its period, its rank, where its row starts and how many jobs it has
 

@@ -13,29 +13,17 @@ use Rattle.theory.specs.Model.Schedule.{period, release}
 use Rattle.theory.specs.Model.Chain.{Chain, Waits, Table, walkNext, walkDelay, walkBound, outranked, delay, sampling, bound}
 use Rattle.theory.specs.Model.Responses.{response, jobs, taskResponse}
 use Rattle.theory.specs.Analysis.Repetition.{response-period}
+use Rattle.theory.specs.Analysis.Largest.{Along, along-first, along-chain, SmallTask, bound-most}
 use Rattle.theory.specs.Analysis.ChainLaws.{chain-head}
 use Rattle.sheet.specs.Tasks.{firstOf, restOf}
-use Rattle.chain.specs.Conditions.{mostPeriod, mostWait, mostFigure, mostWorst, TakenChain, pairBound}
+use Rattle.chain.specs.Conditions.{mostPeriod, mostWait, mostFigure, mostWorst, TakenChain}
 use Rattle.chain.specs.Calls.{figureOf, quickBound, fromFlag}
 
--- ---- what holds of every task on a chain
-
-abbrev pub Along : (ℕ → Type 0) → ℕ → List ℕ → Type 0
-Along P p [] = P p
-Along P p (c ∷ rest) = P p × Along P c rest
-
-pub along-first : (P : ℕ → Type 0) (p : ℕ) (rest : List ℕ) → Along P p rest → P p
-along-first P p [] x = x
-along-first P p (c ∷ rest) x = x .0
-
+-- What holds of every entry holds along the chain.
 pub along-entries : (P : ℕ → Type 0) (chain : List ℕ) → 0 < length chain → ((j : ℕ) → j < length chain → P (getD chain j 0)) → Along P (firstOf chain) (restOf chain)
 along-entries P [] some each = absurd (omega arith)
 along-entries P (p ∷ []) some each = each 0 (omega arith)
 along-entries P (p ∷ c ∷ rest) some each = (each 0 (omega arith), along-entries P (c ∷ rest) (omega arith) (λ j l. each (suc j) (omega arith)))
-
-pub along-chain : (P : ℕ → Type 0) (ts : List Task) → ((i : ℕ) → i < length ts → P i) → (p : ℕ) (rest : List ℕ) → Chain ts p rest → Along P p rest
-along-chain P ts each p [] l = each p l
-along-chain P ts each p (c ∷ rest) l = (each p (l .0), along-chain P ts each c rest (l .2))
 
 -- ---- figures
 
@@ -65,28 +53,6 @@ module _ (T : ℕ → ℕ) (waits : Waits) (table : Table) where
         delay-most c rest (walkNext T waits table p c r) (s .1),
       )
 
--- The same of the quick bound, for responses R of tasks.
-pub record SmallTask (T R : ℕ → ℕ) (i : ℕ) : Type 0 where
-  pub period-positive : 0 < T i
-  pub period-most : T i ≤ mostPeriod
-  pub response-most : R i ≤ mostPeriod
-
-module _ (T : ℕ → ℕ) (waits : Waits) (R : ℕ → ℕ) where
-  common-most : (p c : ℕ) → SmallTask T R p → SmallTask T R c → (0 < gcd (T p) (T c)) × (gcd (T p) (T c) ≤ T c)
-  common-most p c sp sc = (gcd-pos (T p) (T c) (sp .period-positive), le-of-dvd (sc .period-positive) (gcd-divides-right (T p) (T c)))
-
-  pub pair-most : (p c : ℕ) → SmallTask T R p → SmallTask T R c → pairBound T waits R p c ≤ mostWait
-  pair-most p c sp sc = go (waits p c)
-    where
-      go : (b : Bool) → (T c - gcd (T p) (T c)) + cond b (up (gcd (T p) (T c)) (R p)) 0 ≤ mostWait
-      go true = omega (arith, common-most p c sp sc, up-near (gcd (T p) (T c)) (R p) (common-most p c sp sc .0), sp .response-most, sc .period-most)
-      go false = omega (arith, sc .period-most)
-
-  pub bound-most : (p : ℕ) (rest : List ℕ) → Along (SmallTask T R) p rest → walkBound T waits R p rest ≤ mostWait * length rest + mostPeriod
-  unfolding walkBound
-  bound-most p [] s = omega (arith, s .response-most)
-  bound-most p (c ∷ rest) s = omega (arith, pair-most p c (s .0) (along-first (SmallTask T R) c rest (s .1)), bound-most c rest (s .1))
-
 -- ---- the figures of a chain that is answered
 
 module _ {ts : List Task} {chain : List ℕ} (taken : TakenChain ts chain) where
@@ -113,7 +79,7 @@ module _ {ts : List Task} {chain : List ℕ} (taken : TakenChain ts chain) where
     arith,
     length-drop 1 chain,
     taken .few,
-    delay-most (period ts) (outranked ts) (response ts) p rest (release ts p k) (along-chain (Small (period ts) (response ts)) ts task-small p rest (taken .known)),
+    delay-most (period ts) (outranked ts) (response ts) p rest (release ts p k) (along-chain (Small (period ts) (response ts)) (length ts) task-small p rest (taken .known)),
   ))
 
   -- or the greatest responses instead;
@@ -123,10 +89,10 @@ module _ {ts : List Task} {chain : List ℕ} (taken : TakenChain ts chain) where
     arith,
     length-drop 1 chain,
     taken .few,
-    bound-most (period ts) (outranked ts) (taskResponse ts) p rest (along-chain (SmallTask (period ts) (taskResponse ts)) ts greatest-small p rest (taken .known)),
+    bound-most mostPeriod (period ts) (outranked ts) (taskResponse ts) p rest (along-chain (SmallTask mostPeriod (period ts) (taskResponse ts)) (length ts) greatest-small p rest (taken .known)),
   )
     where
-      greatest-small : (i : ℕ) → i < length ts → SmallTask (period ts) (taskResponse ts) i
+      greatest-small : (i : ℕ) → i < length ts → SmallTask mostPeriod (period ts) (taskResponse ts) i
       greatest-small i l = let x = task-small i l in record {
         period-positive = x .period-positive;
         period-most = x .period-most;

@@ -10,11 +10,12 @@ use lib.Seq.{take-all, getD-drop}
 use borrow.Author.Tests.{eq-eqb, ne-eqb}
 use Rattle.theory.specs.Model.Chain.{walkDelay, walkBound}
 use Rattle.theory.specs.Analysis.WalkLaws.{walk-next-later}
+use Rattle.theory.specs.Analysis.Largest.{SmallTask, pair-most, bound-most}
 use Rattle.sheet.specs.Tasks.{firstOf, restOf}
 use Rattle.chain.specs.declared.answer.HandOver.{HandOver}
-use Rattle.chain.specs.Conditions.{mostWait, periodIn, waitsIn, rowsIn, greatestIn, nextIn, delayIn, pairIn, boundIn, onward, ahead, HandedOver, FirstHandedOver, TaskIn, ChainIn}
+use Rattle.chain.specs.Conditions.{mostPeriod, mostWait, periodIn, waitsIn, rowsIn, greatestIn, nextIn, delayIn, pairIn, boundIn, onward, ahead, HandedOver, FirstHandedOver, TaskIn, ChainIn}
 use Rattle.chain.specs.ReadLaws.{row-most, greatest-most}
-use Rattle.chain.specs.Largest.{along-entries, Small, SmallTask, next-most, delay-most, pair-most, bound-most}
+use Rattle.chain.specs.Largest.{along-entries, Small, next-most, delay-most}
 
 -- A part that goes to the end.
 pub part-from : (n : ℕ) (chain : List ℕ) → take (length chain - n) (drop n chain) ≡ drop n chain
@@ -53,14 +54,14 @@ module _ {plan table : List ℕ} where
   entry-small : (i : ℕ) → TaskIn plan table i → Small (periodIn plan) (rowsIn plan table) i
   entry-small i e = record { period-positive = e .period-positive; period-most = e .period-most; response-most = row-most (e .row) }
 
-  entry-small-task : (i : ℕ) → TaskIn plan table i → SmallTask (periodIn plan) (greatestIn plan table) i
+  entry-small-task : (i : ℕ) → TaskIn plan table i → SmallTask mostPeriod (periodIn plan) (greatestIn plan table) i
   entry-small-task i e = record { period-positive = e .period-positive; period-most = e .period-most; response-most = greatest-most (e .row) }
 
   pub next-near : {p c : ℕ} → TaskIn plan table p → TaskIn plan table c → (k : ℕ) → nextIn plan table p c k ≤ k * periodIn plan p + mostWait
   next-near {p} {c} ep ec k = next-most (periodIn plan) (waitsIn plan) (rowsIn plan table) p c (k * periodIn plan p) (entry-small p ep) (entry-small c ec)
 
   pub pair-near : {p c : ℕ} → TaskIn plan table p → TaskIn plan table c → pairIn plan table p c ≤ mostWait
-  pair-near {p} {c} ep ec = pair-most (periodIn plan) (waitsIn plan) (greatestIn plan table) p c (entry-small-task p ep) (entry-small-task c ec)
+  pair-near {p} {c} ep ec = pair-most mostPeriod (periodIn plan) (waitsIn plan) (greatestIn plan table) p c (entry-small-task p ep) (entry-small-task c ec)
 
   module _ {chain : List ℕ} (path : ChainIn plan table chain) where
     pub path-rest : 1 < length chain → ChainIn plan table (restOf chain)
@@ -85,8 +86,8 @@ module _ {plan table : List ℕ} where
           arith,
           path .some,
           length-drop 1 chain,
-          bound-most (periodIn plan) (waitsIn plan) (greatestIn plan table) (firstOf chain) (restOf chain)
-              (along-entries (SmallTask (periodIn plan) (greatestIn plan table)) chain (path .some) (λ j m. entry-small-task (getD chain j 0) (path .entry j m))),
+          bound-most mostPeriod (periodIn plan) (waitsIn plan) (greatestIn plan table) (firstOf chain) (restOf chain)
+              (along-entries (SmallTask mostPeriod (periodIn plan) (greatestIn plan table)) chain (path .some) (λ j m. entry-small-task (getD chain j 0) (path .entry j m))),
         )
 
 -- ---- the first hand-over

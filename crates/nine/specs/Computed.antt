@@ -23,9 +23,9 @@ use Rattle.sheet.specs.declared.Sheet.{Sheet}
 use Rattle.answers.specs.Answers.{Answer, given, refused, Judgement, fine, when, after, also}
 use Rattle.sheet.specs.Calls.{judgeOf}
 use Rattle.sheet.specs.SoundLaws.{judged-sound}
-use Rattle.sheet.specs.Tasks.{tasksOf, chainOf, firstOf, restOf}
+use Rattle.sheet.specs.Tasks.{tasksOf, chainOf, firstOf, restOf, lateness}
 use Rattle.sheet.specs.TaskLaws.{sound-proper, chain-known}
-use Rattle.schedule.specs.Calls.{mostTicks, mostJobs, lateTask, lateGreatest, lateness, sizesOf, responsesOf, rows}
+use Rattle.schedule.specs.Calls.{mostTicks, mostJobs, lateTask, lateGreatest, sizesOf, responsesOf, rows}
 use Rattle.schedule.specs.Lateness.{job-late, late-job}
 use Rattle.chain.specs.Calls.{figureOf, quickBound, samplingOf, boundOf}
 use Rattle.nine.specs.Outcome.{Figures, outcomeOf}

@@ -25,6 +25,8 @@ use chain::Margin;
 use chain::Sampling;
 use chain::Summary;
 use chain::TaskFigures;
+use recurrence::Quick;
+use recurrence::QuickBound;
 use request::Request;
 use request::fill;
 use request::request_in;
@@ -137,6 +139,20 @@ fn put_task_figures(out: &mut [u8], t: TaskFigures) -> usize {
     put_words(out, at, &greatest)
 }
 
+fn put_quick(out: &mut [u8], q: Quick) -> usize {
+    match q {
+        Quick::Of(bounds) => two(out, bounds.sampling_bound, bounds.bound),
+        Quick::No(r) => refused(out, r),
+    }
+}
+
+fn put_quick_bound(out: &mut [u8], q: QuickBound) -> usize {
+    let a = q.answer;
+    let at = put_quick(&mut *out, a);
+    let responses = q.responses;
+    put_words(out, at, &responses)
+}
+
 // Whether it is below zero, and how far from zero it is.
 fn put_signed(out: &mut [u8], at: usize, z: i32) -> usize {
     let next = put_word(&mut *out, at, below_zero(z));
@@ -200,6 +216,7 @@ fn of_sheet(
         17 => put_margin(out, chain::margin(s, number, table)),
         18 => put_margin(out, chain::default_margin(s, table)),
         19 => put_task_figures(out, chain::figures(s, table)),
+        20 => put_quick_bound(out, recurrence::bound(s)),
         _ => accepted(out),
     }
 }

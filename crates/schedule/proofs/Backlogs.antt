@@ -15,7 +15,7 @@ use Rattle.arith.specs.RangeLaws.{sum-le, sum-const}
 use Rattle.theory.specs.Model.Schedule.{none, period, budget, rank, need, released, due}
 use Rattle.theory.specs.Model.Responses.{full, response, jobs}
 use Rattle.theory.specs.Analysis.Work.{due-step, due-jobs}
-use Rattle.theory.specs.Analysis.Level.{level, level-add, level-le, level-eq}
+use Rattle.theory.specs.Analysis.Level.{level, level-add, level-le, level-eq, level-own}
 use Rattle.theory.specs.Analysis.Backlog.{load, drain, backlog-unfinished}
 use Rattle.theory.specs.Analysis.Existence.{full-schedule}
 use Rattle.theory.specs.Analysis.ResponseLaws.{zero-on-time, first-zero-response, no-zero-late}
@@ -29,7 +29,6 @@ use Rattle.schedule.specs.declared.answer.Row.the-variants.{Rests, Late}
 use Rattle.schedule.specs.Calls.{mostTicks, lateTask, row}
 use Rattle.schedule.specs.Lateness.{job-late, late-job}
 use Rattle.schedule.specs.Conditions.{Period, brings, placed, coming, mostClear, restsTo, Additive, Level, Walk, Walked, RowFilled}
-use Rattle.schedule.proofs.Tasks.{level-own}
 
 -- What comes in is the load of the level.
 pub coming-load : {ts : List Task} {i : ℕ} {periods budgets : List ℕ} {size : ℕ} → Level ts i periods budgets size → coming (getD ts i none) periods budgets size ≡ load ts (full ts) i
@@ -60,7 +59,7 @@ module _ {s : Sheet} (ok : Sound s) (i : ℕ) (known : i < s .count) where
   -- A task's own jobs are work of its level.
   own-load : (k : ℕ) → 0 < a (k * period ts i)
   unfolding load released
-  own-load k = omega (arith, own, level-own ok i known (λ j. released ts (full ts) j (k * period ts i)), task-allowed ok i listed .budget-positive)
+  own-load k = omega (arith, own, level-own (sound-proper ok) i listed (λ j. released ts (full ts) j (k * period ts i)), task-allowed ok i listed .budget-positive)
     where
       own : released ts (full ts) i (k * period ts i) ≡ budget ts i
       own = rw (eq-eqb (k * period ts i % period ts i) 0 (mul-mod-left k (period ts i)))

@@ -3,15 +3,15 @@ use mathlib.Core.Path.{_≡_, refl, sym, ap, ap₂, _∙_, subst}
 use mathlib.Core.List.{List}
 use mathlib.Core.Bool.{Bool, true, false, cond}
 use Prim.Native.Nat.{ℕ, suc, _+_, _-_, _*_, _/_, _≤_, _<_, _∣_}
-use native.Mathlib.Nat.{le-refl, le-trans, le-of-dvd, div-le-self}
+use native.Mathlib.Nat.{le-trans, le-of-dvd, div-le-self}
 use native.Mathlib.Numerals.{add-one}
 use native.Mathlib.Omega.{arith}
-use native.Mathlib.Decide.{ℕ-discrete, decLt}
-use lib.Dec.{leb, ltb, eqb}
+use native.Mathlib.Decide.{ℕ-discrete}
+use lib.Dec.{ltb, eqb}
 use lib.ListN.{length, getD, drop, set, length-drop, length-set, drop-of-length-le}
 use lib.Seq.{getD-drop, drop-cons, getD-set-same, getD-set-other}
 use borrow.Author.Count.{below-more}
-use borrow.Author.Tests.{le-leb, lt-leb, lt-ltb, le-ltb, eq-eqb, ne-eqb}
+use borrow.Author.Tests.{lt-ltb, le-ltb, eq-eqb, ne-eqb}
 use Rattle.arith.specs.Whole.{lcm}
 use Rattle.theory.specs.declared.Task.{Task}
 use Rattle.arith.specs.Ranges.{sum}
@@ -19,7 +19,7 @@ use Rattle.arith.specs.RangeLaws.{sum-add, sum-eq, sum-le, sum-const, sum-point
 use Rattle.theory.specs.Model.Schedule.{none, period, budget, rank}
 use Rattle.theory.specs.Model.Responses.{hyperperiod, jobs, allJobs}
 use Rattle.theory.specs.Analysis.Hyperperiod.{hyperperiod-multiple, hyperperiod-least, hyperperiod-positive}
-use Rattle.theory.specs.Analysis.Level.{level}
+use Rattle.theory.specs.Analysis.Level.{level-own}
 use Rattle.sheet.specs.declared.Sheet.{Sheet}
 use Rattle.sheet.specs.Sound.{Sound}
 use Rattle.sheet.specs.Tasks.{tasksOf}
@@ -82,30 +82,6 @@ module _ {s : Sheet} (ok : Sound s) (i : ℕ) (known : i < s .count) where
   abbrev ts : List Task
   ts = tasksOf s
 
-  -- The level of task i is the task itself and those that outrank it.
-  pub level-own : (f : ℕ → ℕ) → level ts i f ≡ f i + sum (length ts) (λ j. cond (ltb (rank ts i) (rank ts j)) (f j) 0)
-  unfolding level
-  level-own f =
-      sum-eq (length ts) _ _ (λ j l. split j l (ℕ-discrete j i) (decLt (rank ts i) (rank ts j)))
-      ∙ sum-add (length ts) (λ j. cond (eqb j i) (f j) 0) _
-      ∙ ap (λ x. x + sum (length ts) (λ j. cond (ltb (rank ts i) (rank ts j)) (f j) 0)) own
-    where
-      listed : i < length ts
-      listed = omega (arith, tasks-length ok)
-
-      split : (j : ℕ) → j < length ts → Dec (j ≡ i) → Dec (rank ts i < rank ts j)
-          → cond (leb (rank ts i) (rank ts j)) (f j) 0 ≡ cond (eqb j i) (f j) 0 + cond (ltb (rank ts i) (rank ts j)) (f j) 0
-      split j l (yes e) r = rw (e, le-leb (rank ts i) (rank ts i) (le-refl _), eq-eqb i i refl, le-ltb (rank ts i) (rank ts i) (le-refl _)) (omega arith)
-      split j l (no n) (yes r) = rw (le-leb (rank ts i) (rank ts j) (omega arith), ne-eqb j i n, lt-ltb (rank ts i) (rank ts j) r) (omega arith)
-      split j l (no n) (no r) = rw (lt-leb (rank ts i) (rank ts j) (below (ℕ-discrete (rank ts j) (rank ts i))), ne-eqb j i n, le-ltb (rank ts i) (rank ts j) (omega arith))
-        where
-          below : Dec (rank ts j ≡ rank ts i) → rank ts j < rank ts i
-          below (yes e) = absurd (n (sound-proper ok .ranks-differ j i l listed e))
-          below (no e) = omega arith
-
-      own : sum (length ts) (λ j. cond (eqb j i) (f j) 0) ≡ f i
-      own = sum-point (length ts) i _ listed (λ j m n. rw (ne-eqb j i n)) ∙ rw (eq-eqb i i refl)
-
   pub gather-start : (periods budgets : List ℕ) → length periods ≡ 16 → length budgets ≡ 16 → GatheredTo s i periods budgets 0 0
   unfolding sum
   gather-start periods budgets a b = record {
@@ -125,7 +101,7 @@ module _ {s : Sheet} (ok : Sound s) (i : ℕ) (known : i < s .count) where
   pub gather-level : {periods budgets : List ℕ} {size : ℕ} → GatheredTo s i periods budgets size (s .count) → Level ts i periods budgets size
   gather-level {periods} {budgets} {size} g = record {
     places = g .places;
-    sums = λ f add. rw (level-own (λ j. f (period ts j) (budget ts j)), tasks-length ok) (ap (λ x. f (period ts i) (budget ts i) + x) (g .sums f add));
+    sums = λ f add. rw (level-own (sound-proper ok) i (omega (arith, tasks-length ok)) (λ j. f (period ts j) (budget ts j)), tasks-length ok) (ap (λ x. f (period ts i) (budget ts i) + x) (g .sums f add));
   }
 
   module _ {periods budgets : List ℕ} {size j : ℕ} (g : GatheredTo s i periods budgets size j) (l : j < s .count) where

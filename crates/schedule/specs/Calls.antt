@@ -1,5 +1,5 @@
 -- What `responses` answers, and what it leaves in the table. Quotations are from document 01.
-use mathlib.Core.List.{List, [], _∷_, _++_}
+use mathlib.Core.List.{List, [], _++_}
 use mathlib.Core.Bool.{Bool, cond}
 use Prim.Native.Nat.{ℕ, zero, suc}
 use lib.Dec.{ltb, eqb}
@@ -7,15 +7,15 @@ use lib.ListN.{length, drop, replicate}
 use Rattle.bits.specs.Bits.{listOf}
 use Rattle.theory.specs.declared.Task.{Task}
 use Rattle.arith.specs.Ranges.{least}
-use Rattle.theory.specs.Model.Schedule.{rank, need, release, Slot, idle, busy, done}
+use Rattle.theory.specs.Model.Schedule.{rank, need, release, Slot, done}
 use Rattle.theory.specs.Model.Greatest.{greatest}
 use Rattle.theory.specs.Model.Responses.{full, fullBudget, response, hyperperiod, jobs, allJobs, idleTicks, taskResponse}
 use Rattle.sheet.specs.declared.Sheet.{Sheet}
 use Rattle.answers.specs.declared.Refusal.{Refusal}
 use Rattle.answers.specs.declared.Refusal.the-variants.{Number}
-use Rattle.answers.specs.Answers.{Answer, given, refused, Judgement, fine, when, after, also, refusal}
+use Rattle.answers.specs.Answers.{Answer, given, refused, when, after, also, refusal}
 use Rattle.sheet.specs.Calls.{places, judgeOf}
-use Rattle.sheet.specs.Tasks.{tasksOf}
+use Rattle.sheet.specs.Tasks.{tasksOf, lateness}
 use Rattle.schedule.specs.declared.answer.Totals.{Totals}
 use Rattle.schedule.specs.declared.answer.Responses.{Responses}
 use Rattle.schedule.specs.declared.answer.Responses.the-variants.{Table, No}
@@ -34,11 +34,6 @@ lateTask ts i = ltb (least (jobs ts i) (late ts i)) (jobs ts i)
 -- "the greatest-ranked late task" of the first n: busy with it, or idle where none is late.
 abbrev pub lateGreatest : List Task → ℕ → Slot
 lateGreatest ts n = greatest (rank ts) (lateTask ts) n
-
--- "15 also returns the index of the greatest-ranked late task."
-abbrev pub lateness : Slot → Judgement
-lateness idle = fine
-lateness (busy i) = refused 15 (i ∷ [])
 
 -- "Limits: H at most 1,000,000; J at most 8,192".
 abbrev pub mostTicks : ℕ

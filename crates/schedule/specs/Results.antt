@@ -9,7 +9,7 @@ use lib.ListN.{length}
 use borrow.Author.Tests.{ltb-false}
 use Rattle.arith.specs.Ranges.{sum}
 use Rattle.theory.specs.declared.Task.{Task}
-use Rattle.theory.specs.Model.Schedule.{none, Slot, idle, busy, period, budget, done}
+use Rattle.theory.specs.Model.Schedule.{Slot, idle, busy, period, budget, done}
 use Rattle.theory.specs.Model.Responses.{hyperperiod, allJobs, idleTicks, Accepted, fullBudget, jobs}
 use Rattle.theory.specs.Analysis.Idle.{runs-exactly, idle-adds-up}
 use Rattle.answers.specs.Answers.{Answer, given, refused, fine, when, after, also}
@@ -17,11 +17,11 @@ use Rattle.answers.specs.AnswerLaws.{when-fine, also-given}
 use Rattle.sheet.specs.declared.Sheet.{Sheet}
 use Rattle.sheet.specs.Calls.{judgeOf}
 use Rattle.sheet.specs.SoundLaws.{judged-sound}
-use Rattle.sheet.specs.Tasks.{tasksOf}
-use Rattle.sheet.specs.TaskLaws.{tasks-length, task-allowed, sound-proper}
+use Rattle.sheet.specs.Tasks.{tasksOf, lateness}
+use Rattle.sheet.specs.TaskLaws.{tasks-length, task-allowed, sound-proper, lateness-fine}
 use Rattle.schedule.specs.declared.answer.Totals.{Totals}
 use Rattle.schedule.specs.declared.answer.Size.{Size}
-use Rattle.schedule.specs.Calls.{mostTicks, mostJobs, lateGreatest, lateness, sizesOf, responsesOf, rows}
+use Rattle.schedule.specs.Calls.{mostTicks, mostJobs, lateGreatest, sizesOf, responsesOf, rows}
 use Rattle.schedule.specs.Taken.{Taken}
 use Rattle.schedule.specs.Lateness.{GreatestLate, idle-accepted, busy-greatest, accepted-idle, greatest-busy}
 use Rattle.schedule.specs.NumberLaws.{sizes-numbered}
@@ -74,7 +74,7 @@ module _ (s : Sheet) (room : ℕ) where
           let y = also-given (lateness (lateGreatest ts (length ts))) _ (x .1) in
           record {
             judged-fine = z .judged-fine;
-            accepted = idle-accepted (sound-proper (judged-sound s (z .judged-fine))) (none (lateGreatest ts (length ts)) (y .0));
+            accepted = idle-accepted (sound-proper (judged-sound s (z .judged-fine))) (lateness-fine (lateGreatest ts (length ts)) (y .0));
             hyperperiod-is = cc (y .1, z .hyperperiod-is);
             hyperperiod-most = z .hyperperiod-most;
             jobs-are = cc (y .1, z .jobs-are);
@@ -82,10 +82,6 @@ module _ (s : Sheet) (room : ℕ) where
             jobs-fit = omega (arith, z .jobs-are, ltb-false room (size .jobs) (when-fine _ 14 (x .0)));
             idle-is = cc (y .1);
           }
-        where
-          none : (x : Slot) → lateness x ≡ fine → x ≡ idle
-          none idle h = refl
-          none (busy i) h = never h
 
   pub given-responses : {totals : Totals} → GivenWhen s room totals → responsesOf s room ≡ given totals
   given-responses {totals} f =

@@ -1,5 +1,5 @@
 -- The tasks and the chain of a sheet that is judged fine: each place's task in the list, proper tasks, and a chain of them.
-use mathlib.Core.Path.{_≡_, sym, ap, ap₂, _∙_, subst}
+use mathlib.Core.Path.{_≡_, refl, sym, ap, ap₂, _∙_, subst}
 use mathlib.Core.Logic.{_≢_}
 use mathlib.Core.List.{List, [], _∷_}
 use Prim.Native.Nat.{ℕ, suc, _/_, _≤_, _<_}
@@ -8,12 +8,15 @@ use native.Mathlib.Omega.{arith}
 use lib.ListN.{length, getD, length-take, List·getD-eq-default}
 use lib.Seq.{length-take-le, getD-take}
 use Rattle.theory.specs.declared.Task.{Task}
-use Rattle.theory.specs.Model.Schedule.{none, period, budget, rank, Proper}
+use Rattle.theory.specs.Model.Schedule.{none, period, budget, rank, Proper, Slot, idle, busy}
 use Rattle.theory.specs.Model.Responses.{hyperperiod, jobs}
 use Rattle.theory.specs.Model.Chain.{Chain}
+use Rattle.answers.specs.Answers.{fine}
+use Rattle.answers.specs.AnswerLaws.{refused-given}
+use Rattle.answers.specs.NumberLaws.{Numbered, given-numbered, refused-numbered}
 use Rattle.sheet.specs.declared.Sheet.{Sheet}
 use Rattle.sheet.specs.Sound.{Sound}
-use Rattle.sheet.specs.Tasks.{tasksOf, chainOf, firstOf, restOf}
+use Rattle.sheet.specs.Tasks.{tasksOf, chainOf, firstOf, restOf, lateness}
 
 -- A task whose T and C are allowed.
 pub record Allowed (t : Task) : Type 0 where
@@ -55,6 +58,9 @@ module _ {s : Sheet} (sound : Sound s) where
 
   pub period-at : (i : ℕ) → i < s .count → period (tasksOf s) i ≡ getD (s .tasks) i none .period
   period-at i l = ap (λ (t : Task). t .period) (task-at i l)
+
+  pub budget-at : (i : ℕ) → i < s .count → budget (tasksOf s) i ≡ getD (s .tasks) i none .budget
+  budget-at i l = ap (λ (t : Task). t .budget) (task-at i l)
 
   pub rank-at : (i : ℕ) → i < s .count → rank (tasksOf s) i ≡ getD (s .tasks) i none .rank
   rank-at i l = ap (λ (t : Task). t .rank) (task-at i l)
@@ -111,3 +117,13 @@ module _ {s : Sheet} (sound : Sound s) where
       let a = entry-at i (omega arith) in
       let b = entry-at (suc i) l in
       omega (arith, sound .entries-differ i (suc i) (a .1) (b .1) (sym (a .0) ∙ q ∙ b .0)))
+
+-- A late task
+
+pub lateness-fine : (x : Slot) → lateness x ≡ fine → x ≡ idle
+lateness-fine idle e = refl
+lateness-fine (busy i) e = refused-given e
+
+pub lateness-numbered : (x : Slot) → Numbered 15 15 (lateness x)
+lateness-numbered idle = given-numbered tt
+lateness-numbered (busy i) = refused-numbered 15 (i ∷ []) (omega arith) (omega arith)

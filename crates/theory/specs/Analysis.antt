@@ -13,6 +13,7 @@ pub mod Idle
 pub mod NeverLater
 -- The laws of the chain.
 pub mod WalkLaws
+pub mod Largest
 pub mod ChainLaws
 pub mod WalkPaths
 pub mod Paths
@@ -20,5 +21,8 @@ pub mod Paths
 pub mod ReadingLaws
 -- The laws of a flag.
 pub mod FlagLaws
+-- The laws of the recurrence.
+pub mod RecurrenceLaws
+pub mod QuickLaws
 -- Figures of given sheets by evaluation.
 pub mod Evaluation

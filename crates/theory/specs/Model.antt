@@ -5,3 +5,4 @@ pub mod Responses
 pub mod Chain
 pub mod Readings
 pub mod Flag
+pub mod Recurrence

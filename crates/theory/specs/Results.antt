@@ -3,3 +3,5 @@ pub mod Quartet
 pub mod Overtaken
 pub mod Demand3
 pub mod Flags
+pub mod QuickBound
+pub mod QuickExamples

@@ -1,9 +1,11 @@
 //! The sheets of the benchmark, written into the folder that is named, with the requests of the probe that are measured, and a line
-//! for each: group, name, n, H, J and chain length.
+//! for each: group, name, n, H, J and chain length; in the group climb n, the steps of all searches and the chain length.
 
 use model::probe::{Call, Handed, Lent, Request};
+use model::recurrence::climb;
 use model::schedule::hyperperiod;
-use model::sheet::{encoded, Task};
+use model::sheet::{encoded, memory, Memory, Task};
+use model::vectors::{falling, LONGEST_CLIMB, LONGEST_LATE_CLIMB};
 use std::path::PathBuf;
 
 struct Sheets {
@@ -21,6 +23,18 @@ impl Sheets {
         self.write(name, ".sampling", &request(Call::Sampling, &sheet, jobs));
         self.write(name, "", &sheet);
         println!("{group} {name} {} {h} {jobs} {}", tasks.len(), chain.len());
+    }
+
+    /// A sheet whose hyperperiod may be out of reach: only the bound without a table is asked for.
+    fn add_climb(&self, name: &str, s: &Memory) {
+        let (tasks, chain) = (&s.tasks[..s.count as usize], &s.chain[..s.length as usize]);
+        let steps: usize = (0..tasks.len()).map(|i| climb(tasks, i).len()).sum();
+        let sheet = encoded(tasks, chain);
+        let quick = request(Call::QuickBound, &sheet, 0);
+        self.write(name, ".read", &of_no_call(&quick));
+        self.write(name, ".quick", &quick);
+        self.write(name, "", &sheet);
+        println!("climb {name} {} {steps} {}", tasks.len(), chain.len());
     }
 
     fn write(&self, name: &str, part: &str, bytes: &[u8]) {
@@ -100,4 +114,10 @@ fn main() {
         let tasks: Vec<Task> = rate_monotonic(&short).iter().map(|t| task(t.period * scale, t.budget * scale, t.rank)).collect();
         sheets.add("hyperperiod", &format!("hyperperiod-{}", 10_000 * scale), &tasks, &straight(16));
     }
+
+    let odd = [task(997, 100, 3), task(1_009, 200, 2), task(1_013, 300, 1)];
+    sheets.add_climb("odd", &memory(&odd, &[2, 1, 0]));
+    sheets.add_climb("full-odd", &memory(&rate_monotonic(&full.map(|period| period - 1)), &straight(16)));
+    sheets.add_climb("longest", &falling(&LONGEST_CLIMB));
+    sheets.add_climb("longest-late", &falling(&LONGEST_LATE_CLIMB));
 }

@@ -4,12 +4,12 @@
 //!
 //! The same seed repeats the same requests. The first difference is printed in words and ends the run with status 1.
 
-use model::experiment::{experiment, Claim, Followed};
-use model::generate::{request, sheet};
+use model::experiment::{experiment, experiment_with_bounds, Claim, Followed};
+use model::generate::{odd_sheet, request, sheet};
 use model::probe::{answer, readable, words, Answer, Call, Handed, Lent, Probe, Request, CALLS};
 use model::random::Random;
 use model::schedule::sizes;
-use model::sheet::Memory;
+use model::sheet::{Memory, Task};
 use std::collections::BTreeSet;
 use std::process::exit;
 
@@ -18,6 +18,9 @@ const ENOUGH: u64 = 50_000;
 
 /// Each of 1 to 9 is met at so many bits or more; 2 has one.
 const PLACES: usize = 12;
+
+/// The model goes tick by tick, so experiments on sheets of any hyperperiod have no longer periods.
+const MOST_ODD: u32 = 1_100;
 
 /// An experiment goes over many hyperperiods, so there is one for so many requests.
 const REQUESTS_PER_EXPERIMENT: u64 = 20;
@@ -71,6 +74,11 @@ struct Met {
     /// And how many have a first task with the least and with the greatest period.
     least_first: u64,
     greatest_first: u64,
+    /// Of the sheets whose bound was asked for without a table: how many of those whose H or J is over its limit are answered and how many
+    /// are late, and how many have an outranked task whose response is its period.
+    beyond: u64,
+    beyond_late: u64,
+    just_fit: u64,
 }
 
 impl Met {
@@ -84,7 +92,10 @@ impl Met {
             }
         }
         self.over += u64::from(q.call == Call::Lcm && a.values[0] == 0);
-        let taken = a.refusal.is_none() && q.call.refusals().contains(&15);
+        if let (Call::QuickBound, Some(s)) = (q.call, q.sheet.memory()) {
+            self.note_quick(&s, a);
+        }
+        let taken = a.refusal.is_none() && q.call.refusals().contains(&14) && q.call.refusals().contains(&15);
         if let (true, Some(s)) = (taken, q.sheet.memory()) {
             self.shapes.insert((s.count, s.length));
             let z = sizes(&s).expect("a sheet that is taken has sizes");
@@ -94,6 +105,14 @@ impl Met {
             self.least_first += u64::from(first == 1);
             self.greatest_first += u64::from(first == 100_000);
         }
+    }
+
+    fn note_quick(&mut self, s: &Memory, a: &Answer) {
+        let beyond = matches!(sizes(s), Err(r) if r.number >= 10);
+        self.beyond += u64::from(beyond && a.refusal.is_none());
+        self.beyond_late += u64::from(beyond && a.refusal.is_some());
+        let fits = |(task, response): (&Task, &u32)| task.budget < *response && *response == task.period;
+        self.just_fit += u64::from(a.refusal.is_none() && s.tasks.iter().zip(&a.values[2..]).any(fits));
     }
 
     fn with_number(&self, number: usize) -> u64 {
@@ -121,6 +140,10 @@ impl Met {
             self.most_jobs
         );
         println!("  first tasks of period 1 taken {} times, of 100,000 {} times", self.least_first, self.greatest_first);
+        println!(
+            "  without a table and beyond H or J {} answered, {} late; {} where a task just fits",
+            self.beyond, self.beyond_late, self.just_fit
+        );
     }
 
     /// Everything that the calls can answer, and that was not met.
@@ -143,6 +166,9 @@ impl Met {
             (self.most_jobs, "J 8,192"),
             (self.least_first, "a first task of period 1"),
             (self.greatest_first, "a first task of period 100,000"),
+            (self.beyond, "a bound beyond H or J"),
+            (self.beyond_late, "a late task beyond H or J"),
+            (self.just_fit, "a task that just fits"),
         ];
         missing.extend(once.into_iter().filter(|(times, _)| *times == 0).map(|(_, what)| what.into()));
         missing
@@ -174,14 +200,19 @@ fn compare(probe: &mut Probe, run: &Run) -> Met {
     met
 }
 
+/// The words of the probe's answer on a sheet in memory, with a table that is large enough for any.
+fn ask(probe: &mut Probe, call: Call, s: &Memory) -> Vec<u32> {
+    let lent = match call {
+        Call::QuickBound => Lent::Bytes(vec![]),
+        _ => Lent::Table { room: 8_192, words: vec![] },
+    };
+    let q = Request { call, numbers: [0; 3], sheet: Handed::Memory(*s), lent };
+    words(&asked(probe, &q, || ()).0)
+}
+
 /// What the probe says of a sheet's chain, unless it refuses the sheet.
 fn claim(probe: &mut Probe, s: &Memory) -> Option<Claim> {
-    let mut ask = |call| {
-        let lent = Lent::Table { room: 8_192, words: vec![] };
-        let q = Request { call, numbers: [0; 3], sheet: Handed::Memory(*s), lent };
-        words(&asked(probe, &q, || ()).0)
-    };
-    match (&ask(Call::Sampling)[..], &ask(Call::Bound)[..], &ask(Call::Figures)[..]) {
+    match (&ask(probe, Call::Sampling, s)[..], &ask(probe, Call::Bound, s)[..], &ask(probe, Call::Figures, s)[..]) {
         (&[_, 0, 0, sampling, release, ..], &[_, 0, 0, sampling_bound, ..], &[_, 0, 0, _, _, _, _, _, _, worst, bound, ..]) => {
             Some(Claim { sampling, release, sampling_bound, worst, bound })
         }
@@ -189,31 +220,60 @@ fn claim(probe: &mut Probe, s: &Memory) -> Option<Claim> {
     }
 }
 
-/// Claims are the probe's own; each is tried on schedules of the model. Answers the sheets tried, and what was followed.
-fn try_claims(probe: &mut Probe, run: &Run) -> (u64, Followed) {
+/// With a table and without: both bounds and the response of each task, or 15 with its task; nothing where H or J is over its limit.
+fn agree(probe: &mut Probe, s: &Memory) -> bool {
+    let (full, quick) = (ask(probe, Call::Figures, s), ask(probe, Call::QuickBound, s));
+    match (&full[1..3], &quick[1..3]) {
+        ([0, 0], [0, 0]) => (full[8], full[10], &full[14..30]) == (quick[3], quick[4], &quick[5..]),
+        ([10 | 11, 0], [0, 0] | [15, _]) => true,
+        (a, b) => a == b,
+    }
+}
+
+/// What the experiments came to: sheets with and without a table, and what was followed on each.
+#[derive(Default)]
+struct Tried {
+    accepted: u64,
+    followed: Followed,
+    bounds: u64,
+    under_bounds: Followed,
+}
+
+/// Claims are the probe's own; each is tried on schedules of the model.
+fn try_claims(probe: &mut Probe, run: &Run) -> Tried {
     let mut random = Random::new(!run.seed);
-    let (mut tried, mut sum) = (0, Followed::default());
+    let mut tried = Tried::default();
     let all = run.requests / REQUESTS_PER_EXPERIMENT;
     for number in 1..=all {
+        let fail = |s: &Memory, trouble: String| -> ! {
+            println!("seed {}, experiment {number}: {s:?}: {trouble}", run.seed);
+            exit(1);
+        };
         let s = sheet(&mut random);
+        if !agree(probe, &s) {
+            fail(&s, "with a table and without the answers differ".into());
+        }
         if let Some(claim) = claim(probe, &s) {
-            let followed = experiment(&s, claim, &mut random).unwrap_or_else(|trouble| {
-                println!("seed {}, experiment {number}: {claim:?} of {s:?}: {trouble}", run.seed);
-                exit(1);
-            });
-            tried += 1;
-            sum.add(&followed);
+            let followed = experiment(&s, claim, &mut random).unwrap_or_else(|trouble| fail(&s, format!("{claim:?}: {trouble}")));
+            tried.accepted += 1;
+            tried.followed.add(&followed);
+        }
+        let s = odd_sheet(&mut random);
+        if let (&[_, 0, 0, sampling_bound, bound, ..], true) = (&ask(probe, Call::QuickBound, &s)[..], s.tasks.iter().all(|t| t.period <= MOST_ODD)) {
+            let followed = experiment_with_bounds(&s, sampling_bound, bound, &mut random);
+            tried.bounds += 1;
+            tried.under_bounds.add(&followed.unwrap_or_else(|trouble| fail(&s, format!("bounds {sampling_bound} and {bound}: {trouble}"))));
         }
         run.progress(number, all, "experiments");
     }
-    (tried, sum)
+    tried
 }
 
 fn main() {
     let run = run();
     let mut probe = Probe::start();
     let met = compare(&mut probe, &run);
-    let (tried, followed) = try_claims(&mut probe, &run);
+    let tried = try_claims(&mut probe, &run);
     if !probe.end().unwrap_or(false) {
         println!("the probe does not end with its input");
         exit(1);
@@ -224,8 +284,13 @@ fn main() {
         exit(1);
     }
     println!("differential: seed {}, {} requests as the model says", run.seed, run.requests);
-    let Followed { paths, reached, rising, flags, latest } = followed;
-    println!("differential: {tried} accepted sheets, {paths} readings followed, none later than its sampling figure, {reached} as late");
+    let Followed { paths, reached, rising, flags, latest } = tried.followed;
+    println!(
+        "differential: {} accepted sheets, {paths} readings followed, none later than its sampling figure, {reached} as late",
+        tried.accepted
+    );
     println!("differential: ranks rise along {rising} of the chains, and full budgets reach the sampling figure of each");
     println!("differential: {flags} flags raised, none stamped later than the worst after it, {latest} as late");
+    let Followed { paths, flags, .. } = tried.under_bounds;
+    println!("differential: {} sheets of any hyperperiod, {paths} readings and {flags} flags, none later than its quick bound", tried.bounds);
 }

@@ -1,6 +1,7 @@
-//! The sample sheets, document 01's and one for each refusal, with the report of each; and what the program report is run on.
+//! The sample sheets, document 01's, one for each refusal and some more, with the report and the quick bound of each; and what the programs
+//! report and bound are run on.
 
-use model::report::report;
+use model::report::{bound, report};
 use model::sheet::{encoded, packed, raw_bits, Task};
 use model::store;
 
@@ -27,6 +28,9 @@ fn main() {
         ("many-jobs", encoded(&pair(2, 16_382), &[0])),
         ("sixteen", encoded(&tasks(&sixteen), &full)),
         ("every-tick", encoded(&tasks(&[(1, 1, 1)]), &[0])),
+        ("odd", encoded(&tasks(&[(997, 100, 3), (1_009, 200, 2), (1_013, 300, 1)]), &[2, 1, 0])),
+        ("odd-just-fits", encoded(&tasks(&[(997, 12, 3), (1_009, 3, 2), (1_013, 983, 1)]), &[2, 0, 1])),
+        ("odd-late", encoded(&tasks(&[(997, 12, 3), (1_009, 3, 2), (1_013, 984, 1)]), &[2, 0, 1])),
         ("slow", encoded(&tasks(&[(2_000, 1_500, 2), (100_000, 20_000, 1)]), &[1, 0])),
         ("refused-1-cut-short", encoded(&radio, &[0, 1, 2])[..9].to_vec()),
         ("refused-1-empty", vec![]),
@@ -49,10 +53,14 @@ fn main() {
     for (name, bytes) in &sheets {
         files.push((format!("samples/{name}.sheet"), bytes.clone()));
         files.push((format!("samples/{name}.report"), report(bytes).into_bytes()));
+        files.push((format!("samples/{name}.bound"), bound(bytes).into_bytes()));
     }
-    let radio = &sheets[1].1;
+    let named = |name| &sheets.iter().find(|sheet| sheet.0 == name).unwrap().1;
+    let (radio, odd) = (named("radio"), named("odd"));
     files.push(("crates/report/stdin".into(), radio.clone()));
     files.push(("crates/report/stdout".into(), report(radio).into_bytes()));
+    files.push(("crates/bound/stdin".into(), odd.clone()));
+    files.push(("crates/bound/stdout".into(), bound(odd).into_bytes()));
     let files: Vec<(&str, Vec<u8>)> = files.iter().map(|(name, content)| (name.as_str(), content.clone())).collect();
     store(&files);
 }

@@ -4,13 +4,15 @@ use mathlib.Core.List.{List}
 use mathlib.Core.Bool.{Bool, true, false, cond}
 use Prim.Native.Nat.{ℕ, _+_, _≤_, _<_}
 use native.Mathlib.Nat.{le-refl}
-use lib.Dec.{leb}
+use native.Mathlib.Omega.{arith}
+use native.Mathlib.Decide.{ℕ-discrete, decLt}
+use lib.Dec.{leb, ltb, eqb}
 use lib.ListN.{length}
-use borrow.Author.Tests.{leb-true, le-leb}
+use borrow.Author.Tests.{leb-true, le-leb, lt-leb, lt-ltb, le-ltb, eq-eqb, ne-eqb}
 use Rattle.theory.specs.declared.Task.{Task}
 use Rattle.arith.specs.Ranges.{sum}
 use Rattle.arith.specs.RangeLaws.{sum-add, sum-le, sum-eq, sum-zero, sum-point, sum-tight}
-use Rattle.theory.specs.Model.Schedule.{rank, busy, runs}
+use Rattle.theory.specs.Model.Schedule.{rank, Proper, busy, runs}
 use Rattle.theory.specs.Analysis.Work.{runs-self, runs-other}
 
 -- Task j is of the level of task i where its rank is at least i's.
@@ -70,3 +72,25 @@ module _ (ts : List Task) (i : ℕ) where
   pub level-all : ((j : ℕ) → j < length ts → rank ts i ≤ rank ts j) → (f : ℕ → ℕ) → level ts i f ≡ sum (length ts) f
   unfolding level
   level-all lowest f = sum-eq (length ts) _ _ (λ j l. ap (λ b. cond b (f j) 0) (le-leb (rank ts i) (rank ts j) (lowest j l)))
+
+-- The level of task i is the task itself and those that outrank it.
+pub level-own : {ts : List Task} → Proper ts → (i : ℕ) → i < length ts → (f : ℕ → ℕ)
+    → level ts i f ≡ f i + sum (length ts) (λ j. cond (ltb (rank ts i) (rank ts j)) (f j) 0)
+unfolding level
+level-own {ts} good i known f =
+    sum-eq (length ts) _ _ (λ j l. split j l (ℕ-discrete j i) (decLt (rank ts i) (rank ts j)))
+    ∙ sum-add (length ts) (λ j. cond (eqb j i) (f j) 0) _
+    ∙ ap (λ x. x + sum (length ts) (λ j. cond (ltb (rank ts i) (rank ts j)) (f j) 0)) own
+  where
+    split : (j : ℕ) → j < length ts → Dec (j ≡ i) → Dec (rank ts i < rank ts j)
+        → cond (leb (rank ts i) (rank ts j)) (f j) 0 ≡ cond (eqb j i) (f j) 0 + cond (ltb (rank ts i) (rank ts j)) (f j) 0
+    split j l (yes e) r = rw (e, le-leb (rank ts i) (rank ts i) (le-refl _), eq-eqb i i refl, le-ltb (rank ts i) (rank ts i) (le-refl _)) (omega arith)
+    split j l (no n) (yes r) = rw (le-leb (rank ts i) (rank ts j) (omega arith), ne-eqb j i n, lt-ltb (rank ts i) (rank ts j) r) (omega arith)
+    split j l (no n) (no r) = rw (lt-leb (rank ts i) (rank ts j) (below (ℕ-discrete (rank ts j) (rank ts i))), ne-eqb j i n, le-ltb (rank ts i) (rank ts j) (omega arith))
+      where
+        below : Dec (rank ts j ≡ rank ts i) → rank ts j < rank ts i
+        below (yes e) = absurd (n (good .ranks-differ j i l known e))
+        below (no e) = omega arith
+
+    own : sum (length ts) (λ j. cond (eqb j i) (f j) 0) ≡ f i
+    own = sum-point (length ts) i _ known (λ j m n. rw (ne-eqb j i n)) ∙ rw (eq-eqb i i refl)

@@ -1,14 +1,14 @@
 -- It goes once over the sixteen places.
 use Prim.Native.Nat.{_-_, _≤_}
 use borrow.Author.Needs.{needs}
-use Rattle.report.proofs.print_tasks.Statement.{statement}
-use Rattle.report.proofs.print_tasks.Tie as tie
+use Rattle.page.proofs.print_tasks.Statement.{statement}
+use Rattle.page.proofs.print_tasks.Tie as tie
 
 abbrev Inv-loop : tie.InvT-loop
-Inv-loop s greatest i₀ t6 t7 t8 i = i ≤ 16
+Inv-loop s responses i₀ t6 t7 t8 i = i ≤ 16
 
 abbrev μ-loop : tie.MeasureT-loop
-μ-loop s greatest i₀ t6 t7 t8 i = 16 - i
+μ-loop s responses i₀ t6 t7 t8 i = 16 - i
 
 pub print-tasks-spec : {M : Type 1} → statement M
 print-tasks-spec =

@@ -1,8 +1,8 @@
 -- It goes once over the sixteen places.
 use Prim.Native.Nat.{_-_, _≤_}
 use borrow.Author.Needs.{needs}
-use Rattle.report.proofs.print_chain.Statement.{statement}
-use Rattle.report.proofs.print_chain.Tie as tie
+use Rattle.page.proofs.print_chain.Statement.{statement}
+use Rattle.page.proofs.print_chain.Tie as tie
 
 abbrev Inv-loop : tie.InvT-loop
 Inv-loop s i₀ t6 t7 i = i ≤ 16

@@ -1,0 +1,11 @@
+-- The contract of each call is its promise: what a caller learns of it is the predicate of `Promises`, no more and no less.
+use mathlib.Core.Path.{_≡_, refl}
+use Rattle.recurrence.specs.Promises.{BoundPromise, BoundRefusalPromise}
+use Rattle.recurrence.proofs.bound.Reads as bound
+use Rattle.recurrence.proofs.bound_refusal.Reads as bound_refusal
+
+bound-promised : bound.Learnt ≡ (λ κs a r e. BoundPromise (a .0) r)
+bound-promised = refl
+
+bound-refusal-promised : bound_refusal.Learnt ≡ (λ κs a r e. BoundRefusalPromise (a .0) r)
+bound-refusal-promised = refl

@@ -1,0 +1,65 @@
+-- What the call answers. Quotations are from document 02, P4, and from document 01.
+use mathlib.Core.Bool.{Bool}
+use mathlib.Core.List.{List}
+use Prim.Native.Nat.{ℕ}
+use lib.Dec.{ltb}
+use lib.ListN.{length}
+use Rattle.theory.specs.declared.Task.{Task}
+use Rattle.theory.specs.Model.Schedule.{period, rank, Slot}
+use Rattle.theory.specs.Model.Greatest.{greatest}
+use Rattle.theory.specs.Model.Chain.{bound}
+use Rattle.theory.specs.Model.Flag.{fromFlag}
+use Rattle.theory.specs.Model.Recurrence.{quickResponse}
+use Rattle.answers.specs.declared.Refusal.{Refusal}
+use Rattle.answers.specs.declared.Refusal.the-variants.{Number}
+use Rattle.answers.specs.Answers.{Answer, given, refused, also, refusal}
+use Rattle.sheet.specs.declared.Sheet.{Sheet}
+use Rattle.sheet.specs.Calls.{places, judgeOf}
+use Rattle.sheet.specs.Tasks.{tasksOf, chainOf, firstOf, restOf, lateness}
+use Rattle.recurrence.specs.declared.answer.Bounds.{Bounds}
+use Rattle.recurrence.specs.declared.answer.Quick.{Quick}
+use Rattle.recurrence.specs.declared.answer.Quick.the-variants.{Of, No}
+
+-- Whether the value of task i "passes its period".
+abbrev pub passes : List Task → ℕ → Bool
+passes ts i = ltb (period ts i) (quickResponse ts i)
+
+-- "the greatest-ranked task whose value passes its period", of the first n: busy with it, or idle where there is none.
+abbrev pub passingGreatest : List Task → ℕ → Slot
+passingGreatest ts n = greatest (rank ts) (passes ts) n
+
+-- "the bound from this alone": document 01's quick bound, which counts from a release of the chain's first task,
+abbrev pub boundBy : List Task → List ℕ → ℕ
+boundBy ts chain = bound ts (quickResponse ts) (firstOf chain) (restOf chain)
+
+-- and the bound that counts from a flag.
+abbrev pub boundsOf : List Task → List ℕ → Bounds
+boundsOf ts chain = record {
+  «sampling_bound» = boundBy ts chain;
+  bound = fromFlag ts (firstOf chain) (boundBy ts chain);
+}
+
+-- "2 to 8"; then 15. "10, 11 and 14 do not occur in this call."
+unfoldable pub quickOf : Sheet → Answer Bounds
+quickOf s =
+    also (judgeOf s)
+    (also (lateness (passingGreatest (tasksOf s) (length (tasksOf s))))
+    (given (boundsOf (tasksOf s) (chainOf s))))
+
+-- The response of each task of the sheet, in its place; zeros with a refusal.
+abbrev pub responsesIn : Sheet → List ℕ
+responsesIn s = places 0 (s .count) (quickResponse (tasksOf s))
+
+abbrev pub responsesAfter : Answer Bounds → Sheet → List ℕ
+responsesAfter (given bounds) s = responsesIn s
+responsesAfter (refused number values) s = places 0 0 (quickResponse (tasksOf s))
+
+-- The answer for each case of the code's enum,
+abbrev pub toldQuick : Quick → Answer Bounds
+toldQuick (Of bounds) = given bounds
+toldQuick (No r) = refusal r
+
+-- and the refusal in it. Number 0, which no refusal has, stands for none.
+abbrev pub quickRefusal : Quick → Refusal
+quickRefusal (Of bounds) = Number 0
+quickRefusal (No r) = r

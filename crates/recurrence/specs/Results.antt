@@ -1,0 +1,159 @@
+-- When each answer is given, and what an answer says of every schedule of the sheet's tasks, whatever their hyperperiod.
+use mathlib.Core.Path.{_≡_, refl, sym, ap, _∙_, subst}
+use mathlib.Core.List.{List, [], _∷_}
+use mathlib.Core.Bool.{true, false, false≢true}
+use Prim.Native.Nat.{ℕ, _+_, _≤_, _<_}
+use native.Mathlib.Omega.{arith}
+use lib.ListN.{length, getD}
+use borrow.Author.Tests.{lt-ltb, ltb-true, ltb-false}
+use Rattle.theory.specs.declared.Task.{Task}
+use Rattle.theory.specs.Model.Schedule.{period, rank, release, Proper, Slot, idle, busy, Demands, Within, Run, Schedule}
+use Rattle.theory.specs.Model.Responses.{response, Accepted}
+use Rattle.theory.specs.Model.Chain.{PathEnds}
+use Rattle.theory.specs.Model.Flag.{FlagWithin}
+use Rattle.theory.specs.Model.Recurrence.{quickResponse, Passing, EverLate}
+use Rattle.theory.specs.Analysis.QuickLaws.{within-accepted}
+use Rattle.theory.specs.Results.QuickBound as theory
+use Rattle.answers.specs.Answers.{Answer, given, refused, Judgement, fine, also}
+use Rattle.answers.specs.AnswerLaws.{refused-given, also-given}
+use Rattle.sheet.specs.declared.Sheet.{Sheet}
+use Rattle.sheet.specs.Calls.{judgeOf}
+use Rattle.sheet.specs.NumberLaws.{judge-numbered}
+use Rattle.sheet.specs.SoundLaws.{judged-sound}
+use Rattle.sheet.specs.Tasks.{tasksOf, chainOf, firstOf, restOf, lateness}
+use Rattle.sheet.specs.TaskLaws.{tasks-length, sound-proper, chain-known, lateness-fine}
+use Rattle.recurrence.specs.declared.answer.Bounds.{Bounds}
+use Rattle.recurrence.specs.declared.answer.QuickBound.{QuickBound}
+use Rattle.recurrence.specs.Calls.{passingGreatest, boundsOf, quickOf, responsesAfter}
+use Rattle.recurrence.specs.CallLaws.{found, quick-fits, quick-passing-task, response-at}
+use Rattle.recurrence.specs.Promises.{BoundPromise}
+
+-- ---- when each answer is given
+
+-- The bounds: the sheet is judged fine, and no value passes its period.
+pub record GivenWhen (s : Sheet) (b : Bounds) : Type 0 where
+  pub judged-fine : judgeOf s ≡ fine
+  pub none-passing : (i : ℕ) → i < length (tasksOf s) → quickResponse (tasksOf s) i ≤ period (tasksOf s) i
+  pub bounds-are : boundsOf (tasksOf s) (chainOf s) ≡ b
+
+-- 15: i is "the greatest-ranked task whose value passes its period".
+pub record LateWhen (s : Sheet) (i : ℕ) : Type 0 where
+  pub judged-fine : judgeOf s ≡ fine
+  pub known : i < length (tasksOf s)
+  pub passing : Passing (tasksOf s) i
+  pub greatest-rank : (j : ℕ) → j < length (tasksOf s) → Passing (tasksOf s) j → rank (tasksOf s) j ≤ rank (tasksOf s) i
+
+-- The task that is found.
+module _ (ts : List Task) where
+  none-found : ((i : ℕ) → i < length ts → quickResponse ts i ≤ period ts i) → passingGreatest ts (length ts) ≡ idle
+  none-found none = go (passingGreatest ts (length ts)) refl
+    where
+      go : (x : Slot) → passingGreatest ts (length ts) ≡ x → x ≡ idle
+      go idle e = refl
+      go (busy i) e = absurd (omega (arith, none i (found ts e .0), ltb-true (period ts i) (quickResponse ts i) (found ts e .1)))
+
+  task-found : Proper ts → {i : ℕ} → i < length ts → Passing ts i → ((j : ℕ) → j < length ts → Passing ts j → rank ts j ≤ rank ts i)
+      → passingGreatest ts (length ts) ≡ busy i
+  task-found good {i} known p most = go (passingGreatest ts (length ts)) refl
+    where
+      go : (x : Slot) → passingGreatest ts (length ts) ≡ x → x ≡ busy i
+      go idle e = absurd (false≢true (sym (found ts e i known) ∙ lt-ltb (period ts i) (quickResponse ts i) p))
+      go (busy j) e =
+          let x = found ts e in
+          ap busy (good .ranks-differ j i (x .0) known (omega (
+            arith,
+            x .2 i known (lt-ltb (period ts i) (quickResponse ts i) p),
+            most j (x .0) (ltb-true (period ts j) (quickResponse ts j) (x .1)),
+          )))
+
+module _ (s : Sheet) where
+  abbrev ts : List Task
+  ts = tasksOf s
+
+  pub quick-given : {b : Bounds} → quickOf s ≡ given b → GivenWhen s b
+  unfolding quickOf
+  quick-given e =
+      let x = also-given (judgeOf s) _ e in
+      let y = also-given (lateness (passingGreatest ts (length ts))) _ (x .1) in
+      record {
+        judged-fine = x .0;
+        none-passing = λ i l. ltb-false _ _ (found ts (lateness-fine _ (y .0)) i l);
+        bounds-are = cc (y .1);
+      }
+
+  pub given-quick : {b : Bounds} → GivenWhen s b → quickOf s ≡ given b
+  given-quick g = quick-fits s (g .judged-fine) (ap lateness (none-found ts (g .none-passing))) ∙ ap given (g .bounds-are)
+
+  pub quick-15 : {i : ℕ} → quickOf s ≡ refused 15 (i ∷ []) → LateWhen s i
+  unfolding quickOf
+  quick-15 {i} = go (judgeOf s) refl
+    where
+      rest : Slot → Answer Bounds
+      rest x = also (lateness x) (given (boundsOf ts (chainOf s)))
+
+      go : (j : Judgement) → judgeOf s ≡ j → also j (rest (passingGreatest ts (length ts))) ≡ refused 15 (i ∷ []) → LateWhen s i
+      go (refused n vs) q e = absurd (omega (arith, judge-numbered s .most q, same))
+        where
+          same : n ≡ 15
+          same = cc
+      go (given u) q e = pick (passingGreatest ts (length ts)) refl e
+        where
+          pick : (x : Slot) → passingGreatest ts (length ts) ≡ x → rest x ≡ refused 15 (i ∷ []) → LateWhen s i
+          pick idle p h = refused-given (sym h)
+          pick (busy j) p h = subst (LateWhen s) same (record {
+            judged-fine = q;
+            known = found ts p .0;
+            passing = ltb-true _ _ (found ts p .1);
+            greatest-rank = λ k l r. found ts p .2 k l (lt-ltb (period ts k) (quickResponse ts k) r);
+          })
+            where
+              same : j ≡ i
+              same = cc
+
+  pub late-quick : {i : ℕ} → LateWhen s i → quickOf s ≡ refused 15 (i ∷ [])
+  late-quick w =
+      quick-passing-task s (w .judged-fine) (task-found ts (sound-proper (judged-sound s (w .judged-fine))) (w .known) (w .passing) (w .greatest-rank))
+
+-- ---- the schedules
+
+-- Of a sheet that is judged fine a value passes its period exactly when some job of the task is late in the full-budget schedule.
+pub passing-is-late : (s : Sheet) → judgeOf s ≡ fine → (i : ℕ) → i < length (tasksOf s)
+    → (Passing (tasksOf s) i → EverLate (tasksOf s) i) × (EverLate (tasksOf s) i → Passing (tasksOf s) i)
+passing-is-late s e i l = theory.passing-is-late (sound-proper (judged-sound s e)) i l
+
+-- So where the bounds are given no task is late,
+pub given-accepted : (s : Sheet) {b : Bounds} → quickOf s ≡ given b → Accepted (tasksOf s)
+given-accepted s e = let g = quick-given s e in within-accepted (sound-proper (judged-sound s (g .judged-fine))) (g .none-passing)
+
+-- and what is answered for a task is the greatest response of all its jobs; the first has it.
+pub responses-greatest : (s : Sheet) (r : QuickBound) (promise : BoundPromise s r) {b : Bounds} (answer : quickOf s ≡ given b) (i : ℕ) (known : i < s .count)
+    → ((k : ℕ) → response (tasksOf s) i k ≤ getD (r .responses) i 0) × (response (tasksOf s) i 0 ≡ getD (r .responses) i 0)
+responses-greatest s r promise answer i known =
+    let sound = judged-sound s (quick-given s answer .judged-fine) in
+    let x = theory.quick-response-of-all (sound-proper sound) i (omega (arith, tasks-length sound)) in
+    let is = response-at sound (promise .1 ∙ ap (λ a. responsesAfter a s) answer) i known in
+    ((λ k. omega (arith, is, x .0 k)), omega (arith, is, x .1))
+
+-- No schedule exceeds the bound. If it is answered, then for all demands of 1 to C, every run that is a schedule for them and every job of the
+-- chain's first task the path from it exists, and ends no later than the sampling bound after the job's release;
+pub no-schedule-exceeds-quick-bound :
+    (s : Sheet) (b : Bounds) (answer : quickOf s ≡ given b)
+    (d : Demands) (within : Within (tasksOf s) d) (run : Run) (schedule : Schedule (tasksOf s) d run) (k : ℕ)
+    → ((f : ℕ) × PathEnds d run (firstOf (chainOf s)) (restOf (chainOf s)) k f)
+    × ((f : ℕ) → PathEnds d run (firstOf (chainOf s)) (restOf (chainOf s)) k f → f ≤ release (tasksOf s) (firstOf (chainOf s)) k + b .«sampling_bound»)
+no-schedule-exceeds-quick-bound s b answer d within run schedule k =
+    let g = quick-given s answer in
+    let x = theory.no-schedule-exceeds-quick-bound (tasksOf s) (given-accepted s answer) (firstOf (chainOf s)) (restOf (chainOf s))
+    (chain-known (judged-sound s (g .judged-fine))) d within run schedule k in
+    (x .0, λ f path. omega (arith, x .1 f path, ap (λ b. b .«sampling_bound») (g .bounds-are)))
+
+-- and a flag raised at any tick is stamped no later than the bound after it.
+pub no-flag-exceeds-quick-bound :
+    (s : Sheet) (b : Bounds) (answer : quickOf s ≡ given b)
+    (d : Demands) (within : Within (tasksOf s) d) (run : Run) (schedule : Schedule (tasksOf s) d run) (e : ℕ)
+    → FlagWithin d run (firstOf (chainOf s)) (restOf (chainOf s)) e (b .bound)
+no-flag-exceeds-quick-bound s b answer d within run schedule e =
+    let g = quick-given s answer in
+    subst (λ b. FlagWithin d run (firstOf (chainOf s)) (restOf (chainOf s)) e (b .bound)) (g .bounds-are)
+    (theory.no-flag-exceeds-quick-bound (tasksOf s) (given-accepted s answer) (firstOf (chainOf s)) (restOf (chainOf s))
+    (chain-known (judged-sound s (g .judged-fine))) d within run schedule e)

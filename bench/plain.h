@@ -1,9 +1,10 @@
 // The report as one would write it by hand in C, to compare with. A program that includes this has a way to fill the table.
 //
-//     PROGRAM report|bound|bound-twin|table|sampling|quick|quick-twin|read < SHEET
+//     PROGRAM report|bound|bound-twin|table|figures|quick|quick-twin|read < SHEET
 //
-// `report` and `bound` print what the proved programs of these names print. The others print one number: the idle ticks, the sampling
-// figure, the bound without a table, the task count. With `-twin` the tasks that outrank one are gathered before they are gone over.
+// `report` and `bound` print what the proved programs of these names print. `figures` prints the sampling figure, its release and its
+// bound. The others print one number: the idle ticks, the bound without a table, the task count. With `-twin` the tasks that outrank one
+// are gathered before they are gone over.
 #include <stdbool.h>
 #include <stdint.h>
 #include <stdio.h>
@@ -247,16 +248,28 @@ static void print_bound(const struct sheet *s, bool gathered) {
     printf("\nbound %u\n", ticks);
 }
 
-static void print_report(const struct sheet *s, const struct plan *plan) {
-    uint32_t greatest[MOST_TASKS];
-    printf("tasks %u hyperperiod %u jobs %u idle %u\n", s->count, plan->hyperperiod, plan->jobs, plan->idle);
+static void find_greatest(const struct sheet *s, const struct plan *plan, uint32_t *greatest) {
     for (uint32_t i = 0; i < s->count; i++) {
         greatest[i] = 0;
         for (uint32_t k = 0; k < plan->counts[i]; k++)
             if (greatest[i] < plan->rows[i][k])
                 greatest[i] = plan->rows[i][k];
-        printf("task %u response %u\n", i, greatest[i]);
     }
+}
+
+static void print_figures(const struct sheet *s, const struct plan *plan) {
+    uint32_t greatest[MOST_TASKS];
+    find_greatest(s, plan, greatest);
+    struct figure figure = sampling(s, plan);
+    printf("%u %u %u\n", figure.ticks, figure.release, sampling_bound(s, greatest));
+}
+
+static void print_report(const struct sheet *s, const struct plan *plan) {
+    uint32_t greatest[MOST_TASKS];
+    find_greatest(s, plan, greatest);
+    printf("tasks %u hyperperiod %u jobs %u idle %u\n", s->count, plan->hyperperiod, plan->jobs, plan->idle);
+    for (uint32_t i = 0; i < s->count; i++)
+        printf("task %u response %u\n", i, greatest[i]);
     printf("chain");
     for (uint32_t i = 0; i < s->length; i++)
         printf(" %u", s->chain[i]);
@@ -290,8 +303,8 @@ int main(int count, char **words) {
     fill_table(&s, &plan, table);
     if (strcmp(what, "table") == 0)
         printf("%u\n", plan.idle);
-    else if (strcmp(what, "sampling") == 0)
-        printf("%u\n", sampling(&s, &plan).ticks);
+    else if (strcmp(what, "figures") == 0)
+        print_figures(&s, &plan);
     else
         print_report(&s, &plan);
     return 0;

@@ -86,16 +86,6 @@ uint8_t bellkettle_delay(const uint8_t *sheet, size_t sheet_length, uint32_t rel
                          uint32_t *table, size_t table_length,
                          int64_t *values, size_t values_length);
 
-/* values: the sampling figure, and the smallest release that gives it. Refuses 1 to 9, 10, 11, 14, 15. */
-uint8_t bellkettle_sampling(const uint8_t *sheet, size_t sheet_length,
-                            uint32_t *table, size_t table_length,
-                            int64_t *values, size_t values_length);
-
-/* values: the sampling bound. Refuses 1 to 9, 10, 11, 14, 15. */
-uint8_t bellkettle_bound(const uint8_t *sheet, size_t sheet_length,
-                         uint32_t *table, size_t table_length,
-                         int64_t *values, size_t values_length);
-
 /* values: the limit less the worst; where it is not below zero every flag is stamped within the limit. Refuses 1 to 9, 10, 11, 13, 14, 15. */
 uint8_t bellkettle_margin(const uint8_t *sheet, size_t sheet_length, uint32_t limit,
                           uint32_t *table, size_t table_length,
@@ -107,7 +97,7 @@ uint8_t bellkettle_default_margin(const uint8_t *sheet, size_t sheet_length,
                                   int64_t *values, size_t values_length);
 
 /*
- * What a report says, from one filling of the table. values, nine: H, J, the idle ticks before H; the sampling figure, the smallest
+ * The figures of the chain, from one filling of the table. values, nine: H, J, the idle ticks before H; the sampling figure, the smallest
  * release that gives it, the sampling bound; the worst, its bound, and the margin under a limit of 1,000 ticks. The response of a task
  * is the greatest of its row. Refuses 1 to 9, 10, 11, 14, 15.
  */

@@ -100,15 +100,13 @@ static void expect_marked(const char *sheet, size_t value, size_t entry) {
     expect(sheet, "entries touched that are not to be", (int64_t)touched, 0);
 }
 
-/* The seven calls that fill a table and the one that is lent none, in one form. */
-enum call { RESPONSES, DELAY, SAMPLING, BOUND, MARGIN, DEFAULT_MARGIN, FIGURES, QUICK_BOUND };
+/* The five calls that fill a table and the one that is lent none, in one form. */
+enum call { RESPONSES, DELAY, MARGIN, DEFAULT_MARGIN, FIGURES, QUICK_BOUND };
 
 static uint8_t ask(enum call call, const uint8_t *sheet, size_t length, uint32_t number, size_t room, size_t places) {
     switch (call) {
     case RESPONSES: return bellkettle_responses(sheet, length, table, room, values, places);
     case DELAY: return bellkettle_delay(sheet, length, number, table, room, values, places);
-    case SAMPLING: return bellkettle_sampling(sheet, length, table, room, values, places);
-    case BOUND: return bellkettle_bound(sheet, length, table, room, values, places);
     case MARGIN: return bellkettle_margin(sheet, length, number, table, room, values, places);
     case DEFAULT_MARGIN: return bellkettle_default_margin(sheet, length, table, room, values, places);
     case FIGURES: return bellkettle_figures(sheet, length, table, room, values, places);
@@ -138,7 +136,7 @@ static void expect_bit(const char *name, int bit) {
     expect_marked(name, bit != NO_BIT ? 1 : 0, 0);
 }
 
-/* A refusal of 1 to 14 by any of the eight. */
+/* A refusal of 1 to 14 by any of the six. */
 static void expect_refused(const char *name, enum call call, const uint8_t *sheet, size_t length, uint32_t number, size_t room, uint8_t refusal, int bit) {
     mark();
     expect(name, "the refusal", ask(call, sheet, length, number, room, VALUES), refusal);
@@ -273,8 +271,6 @@ static void document_one(void) {
     const uint32_t rows[] = {4, 1, 1, 1, 1, 2, 2};
     expect_sheet(&trio, 7);
     expect_given(&trio, RESPONSES, 0, 7, rows, 3, (int64_t[]){8, 7, 1});
-    expect_given(&trio, SAMPLING, 0, 7, rows, 2, (int64_t[]){6, 0});
-    expect_given(&trio, BOUND, 0, 7, rows, 1, (int64_t[]){8});
     expect_given(&trio, FIGURES, 0, 7, rows, 9, (int64_t[]){8, 7, 1, 6, 0, 8, 13, 15, 987});
     expect_quick_bound(&trio, 8, 15);
 }
@@ -286,8 +282,6 @@ static void document_two_and_three(void) {
     expect_given(&radio, DELAY, 0, 18, rows, 1, (int64_t[]){16});
     expect_given(&radio, DELAY, 20, 18, rows, 1, (int64_t[]){20});
     expect_given(&radio, DELAY, 40, 18, rows, 1, (int64_t[]){12});
-    expect_given(&radio, SAMPLING, 0, 18, rows, 2, (int64_t[]){20, 20});
-    expect_given(&radio, BOUND, 0, 18, rows, 1, (int64_t[]){24});
     expect_given(&radio, DEFAULT_MARGIN, 0, 18, rows, 1, (int64_t[]){961});
     expect_given(&radio, MARGIN, 1000, 18, rows, 1, (int64_t[]){961});
     expect_given(&radio, MARGIN, 39, 18, rows, 1, (int64_t[]){0});
@@ -300,24 +294,18 @@ static void document_two_and_three(void) {
     expect_given(&radio_short, DELAY, 0, 18, rows, 1, (int64_t[]){13});
     expect_given(&radio_short, DELAY, 20, 18, rows, 1, (int64_t[]){11});
     expect_given(&radio_short, DELAY, 40, 18, rows, 1, (int64_t[]){9});
-    expect_given(&radio_short, SAMPLING, 0, 18, rows, 2, (int64_t[]){13, 0});
-    expect_given(&radio_short, BOUND, 0, 18, rows, 1, (int64_t[]){15});
     expect_given(&radio_short, FIGURES, 0, 18, rows, 9, (int64_t[]){60, 18, 20, 13, 0, 15, 32, 34, 968});
     expect_quick_bound(&radio_short, 15, 34);
 }
 
 static void document_four_to_six(void) {
     expect_sheet(&quartet, 5);
-    expect_given(&quartet, SAMPLING, 0, 5, NULL, 2, (int64_t[]){8, 3});
-    expect_given(&quartet, BOUND, 0, 5, NULL, 1, (int64_t[]){8});
     expect_given(&quartet, FIGURES, 0, 5, NULL, 9, (int64_t[]){6, 5, 1, 8, 3, 8, 10, 10, 990});
     expect_quick_bound(&quartet, 8, 10);
 
     const uint8_t printed[] = {0x08, 0x00, 0x14, 0x00, 0x0A, 0x02, 0x10};
     expect_sheet(&lone, 1);
     expect_read("Lone as printed", printed, sizeof printed, 0, NO_BIT, &lone);
-    expect_given(&lone, SAMPLING, 0, 1, (uint32_t[]){5}, 2, (int64_t[]){5, 0});
-    expect_given(&lone, BOUND, 0, 1, (uint32_t[]){5}, 1, (int64_t[]){5});
     expect_given(&lone, FIGURES, 0, 1, (uint32_t[]){5}, 9, (int64_t[]){5, 1, 0, 5, 0, 5, 9, 9, 991});
     expect_quick_bound(&lone, 5, 9);
 
@@ -500,8 +488,6 @@ static void first_periods(void) {
     expect_given(&every_tick, FIGURES, 0, 1, (uint32_t[]){1}, 9, (int64_t[]){1, 1, 0, 1, 0, 1, 1, 1, 999});
     expect_given(&every_tick, MARGIN, 1, 1, (uint32_t[]){1}, 1, (int64_t[]){0});
     expect_sheet(&longest_period, 1);
-    expect_given(&longest_period, SAMPLING, 0, 1, (uint32_t[]){1}, 2, (int64_t[]){1, 0});
-    expect_given(&longest_period, BOUND, 0, 1, (uint32_t[]){1}, 1, (int64_t[]){1});
     expect_given(&longest_period, FIGURES, 0, 1, (uint32_t[]){1}, 9, (int64_t[]){100000, 1, 99999, 1, 0, 1, 100000, 100000, -99000});
     expect_given(&longest_period, MARGIN, 100000, 1, (uint32_t[]){1}, 1, (int64_t[]){0});
 }
@@ -529,16 +515,12 @@ static void odd_periods(void) {
 static void short_memory(void) {
     struct bytes sheet = pack(&radio);
     size_t size = size_of(&sheet);
-    mark();
-    expect("one value of two", "the number returned", ask(SAMPLING, sheet.at, size, 0, 18, 1), 0);
-    expect("one value of two", "the value", values[0], 20);
-    expect_marked("one value of two", 1, 18);
     for (size_t places = 0; places < VALUES; places++) {
         expect_given(&radio, FIGURES, 0, 18, NULL, places, (int64_t[]){60, 18, 20, 20, 20, 24, 39, 43});
     }
-    expect("nothing lent", "the refusal", bellkettle_sampling(sheet.at, size, NULL, 0, NULL, 0), 14);
-    expect("no place for the bit", "the refusal", bellkettle_sampling(sheet.at, size - 1, table, 18, NULL, 0), 1);
-    expect("no values lent", "the number returned", bellkettle_sampling(sheet.at, size, table, 18, NULL, 0), 0);
+    expect("nothing lent", "the refusal", bellkettle_figures(sheet.at, size, NULL, 0, NULL, 0), 14);
+    expect("no place for the bit", "the refusal", bellkettle_figures(sheet.at, size - 1, table, 18, NULL, 0), 1);
+    expect("no values lent", "the number returned", bellkettle_figures(sheet.at, size, table, 18, NULL, 0), 0);
 
     uint32_t periods[] = {MARK, MARK, MARK};
     expect("two periods of three", "reading", bellkettle_read(sheet.at, size, periods, 2, NULL, 0, NULL, 0, NULL, 0, NULL, 0), 0);

@@ -113,14 +113,6 @@ pub fn delay(s: &Memory, release: u32, table: &mut [u32]) -> Result<u32, Refusal
     Ok(fill(z, table)?.delay(chain_of(s), release))
 }
 
-pub fn sampling(s: &Memory, table: &mut [u32]) -> Result<(u32, u32), Refusal> {
-    Ok(fill(sizes(s)?, table)?.sampling(chain_of(s)))
-}
-
-pub fn sampling_bound(s: &Memory, table: &mut [u32]) -> Result<u32, Refusal> {
-    Ok(fill(sizes(s)?, table)?.sampling_bound(chain_of(s)))
-}
-
 pub fn margin(s: &Memory, limit: u32, table: &mut [u32]) -> Result<i64, Refusal> {
     let z = sizes(s)?;
     if limit > 4_000_000 {

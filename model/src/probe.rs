@@ -25,8 +25,6 @@ pub enum Call {
     Responses,
     TaskResponses,
     Delay,
-    Sampling,
-    Bound,
     Margin,
     DefaultMargin,
     Figures,
@@ -35,9 +33,9 @@ pub enum Call {
 
 use Call::*;
 
-pub const CALLS: [Call; 20] = [
-    Gcd, Lcm, Up, Magnitude, Number, Put, Read, Greatest, Judge, Write, Sizes, Responses, TaskResponses, Delay, Sampling, Bound, Margin,
-    DefaultMargin, Figures, QuickBound,
+pub const CALLS: [Call; 18] = [
+    Gcd, Lcm, Up, Magnitude, Number, Put, Read, Greatest, Judge, Write, Sizes, Responses, TaskResponses, Delay, Margin, DefaultMargin,
+    Figures, QuickBound,
 ];
 
 impl Call {
@@ -48,7 +46,7 @@ impl Call {
             Read | Judge => (1..=9).collect(),
             Write => (1..=9).chain([14]).collect(),
             Sizes => (1..=11).collect(),
-            Responses | TaskResponses | Sampling | Bound | DefaultMargin | Figures => (1..=11).chain([14, 15]).collect(),
+            Responses | TaskResponses | DefaultMargin | Figures => (1..=11).chain([14, 15]).collect(),
             Delay => (1..=12).chain([14, 15]).collect(),
             Margin => (1..=11).chain([13, 14, 15]).collect(),
             QuickBound => (1..=9).chain([15]).collect(),
@@ -217,8 +215,6 @@ fn of_sheet(call: Call, number: u32, s: &Memory, buffer: &mut [u8], table: &mut 
         Responses => schedule::responses(s, table).map(|w| totals(&w)),
         TaskResponses => schedule::responses(s, table).map(|w| [totals(&w), greatest(&w)].concat()),
         Delay => chain::delay(s, number, table).map(|d| vec![d]),
-        Sampling => chain::sampling(s, table).map(|(figure, release)| vec![figure, release]),
-        Bound => chain::sampling_bound(s, table).map(|b| vec![b]),
         Margin => chain::margin(s, number, table).map(signed),
         DefaultMargin => chain::margin(s, chain::DEFAULT_LIMIT, table).map(signed),
         Figures => chain::figures(s, table).map(|(w, f)| {

@@ -1,6 +1,6 @@
 //! The model against the figures that documents 01 and 02 print and the places that document 02 names.
 
-use model::chain::{delay, figures, margin, sampling, sampling_bound};
+use model::chain::{delay, figures, margin};
 use model::report::report;
 use model::schedule::{night, responses};
 use model::sheet::{encoded, judge, memory, read, unjudged, write, Memory, Task};
@@ -15,6 +15,12 @@ const TRIO: &[(u32, u32, u8)] = &[(8, 1, 1), (2, 1, 3), (4, 1, 2)];
 const RADIO: &[(u32, u32, u8)] = &[(20, 5, 1), (6, 1, 3), (12, 3, 2)];
 const QUARTET: &[(u32, u32, u8)] = &[(6, 1, 4), (6, 1, 3), (3, 1, 2), (6, 1, 1)];
 
+/// What counts from a release: the sampling figure, the smallest release that gives it, and its bound.
+fn from_a_release(s: &Memory) -> (u32, u32, u32) {
+    let (_, f) = figures(s, &mut [0; 8_192]).unwrap();
+    (f.sampling, f.release, f.sampling_bound)
+}
+
 /// What counts from a flag: worst, bound, and the margin under the default limit.
 fn from_a_flag(s: &Memory) -> (u32, u32, i64) {
     let (_, f) = figures(s, &mut [0; 8_192]).unwrap();
@@ -28,8 +34,7 @@ fn trio() {
     let w = responses(&s, &mut table).unwrap();
     assert_eq!((8, 7, 1), (w.hyperperiod, w.jobs, w.idle));
     assert_eq!([4, 1, 1, 1, 1, 2, 2], table);
-    assert_eq!(Ok((6, 0)), sampling(&s, &mut table));
-    assert_eq!(Ok(8), sampling_bound(&s, &mut table));
+    assert_eq!((6, 0, 8), from_a_release(&s));
     // "Document 002 prints 14 and 16", as strict limits: in whole ticks one less each.
     assert_eq!((14 - 1, 16 - 1, 987), from_a_flag(&s));
 }
@@ -42,13 +47,12 @@ fn radio() {
     assert_eq!((60, 18, 20), (w.hyperperiod, w.jobs, w.idle));
     assert_eq!([10, 9, 6, 1, 1, 1, 1, 1, 1, 1, 1, 1, 1, 4, 4, 4, 4, 4], table);
     assert_eq!([Ok(16), Ok(20), Ok(12)], [0, 20, 40].map(|r| delay(&s, r, &mut table)));
-    assert_eq!(Ok((20, 20)), sampling(&s, &mut table));
-    assert_eq!(Ok(24), sampling_bound(&s, &mut table));
+    assert_eq!((20, 20, 24), from_a_release(&s));
     assert_eq!((39, 43, 961), from_a_flag(&s));
     assert_eq!([Ok(961), Ok(0), Ok(-39)], [1_000, 39, 0].map(|limit| margin(&s, limit, &mut table)));
     let short = sheet(RADIO, &[0, 1]);
     assert_eq!([Ok(13), Ok(11), Ok(9)], [0, 20, 40].map(|r| delay(&short, r, &mut table)));
-    assert_eq!(Ok(15), sampling_bound(&short, &mut table));
+    assert_eq!((13, 0, 15), from_a_release(&short));
     assert_eq!((13 + 19, 15 + 19, 968), from_a_flag(&short));
 }
 
@@ -57,7 +61,7 @@ fn radio() {
 fn first_periods() {
     for (period, worst) in [(1, 1), (2, 2), (99_999, 99_999), (100_000, 100_000)] {
         let s = sheet(&[(period, 1, 2)], &[0]);
-        assert_eq!(Ok((1, 0)), sampling(&s, &mut [0]));
+        assert_eq!((1, 0, 1), from_a_release(&s));
         assert_eq!((worst, worst, 1_000 - i64::from(worst)), from_a_flag(&s));
     }
     // The first task of the chain, wherever it stands on the sheet and whatever comes after it.
@@ -69,9 +73,7 @@ fn first_periods() {
 #[test]
 fn quartet() {
     let s = sheet(QUARTET, &[2, 3]);
-    let mut table = [0; 5];
-    assert_eq!(Ok((8, 3)), sampling(&s, &mut table));
-    assert_eq!(Ok(8), sampling_bound(&s, &mut table));
+    assert_eq!((8, 3, 8), from_a_release(&s));
     // Its one schedule: the job of task 2 released at 0 writes at 3, task 3 starts then and finishes at 5; the one released at 3
     // writes at 4, task 3 starts at 4 and finishes at 5.
     let n = night(&s.tasks[..4], 6, |_, _| 1);
@@ -83,8 +85,7 @@ fn quartet() {
 fn the_others() {
     let lone = sheet(&[(5, 5, 1)], &[0]);
     let mut table = [1; 9_000];
-    assert_eq!(Ok((5, 0)), sampling(&lone, &mut table));
-    assert_eq!(Ok(5), sampling_bound(&lone, &mut table));
+    assert_eq!((5, 0, 5), from_a_release(&lone));
     assert_eq!(vec![0x08, 0x00, 0x14, 0x00, 0x0A, 0x02, 0x10], encoded(&lone.tasks[..1], &[0]));
     let late = responses(&sheet(&[(2, 1, 2), (3, 2, 1)], &[0]), &mut table).err().unwrap();
     assert_eq!((15, Some(1)), (late.number, late.value));

@@ -4,8 +4,6 @@ use Rattle.bellkettle.specs.declared.Question.{Question}
 use Rattle.bellkettle.specs.Promises.{SheetAsked, QuickAsked, SheetRead, SheetWritten}
 use Rattle.bellkettle.proofs.bellkettle_responses.Reads as bellkettle_responses
 use Rattle.bellkettle.proofs.bellkettle_delay.Reads as bellkettle_delay
-use Rattle.bellkettle.proofs.bellkettle_sampling.Reads as bellkettle_sampling
-use Rattle.bellkettle.proofs.bellkettle_bound.Reads as bellkettle_bound
 use Rattle.bellkettle.proofs.bellkettle_margin.Reads as bellkettle_margin
 use Rattle.bellkettle.proofs.bellkettle_default_margin.Reads as bellkettle_default_margin
 use Rattle.bellkettle.proofs.bellkettle_figures.Reads as bellkettle_figures
@@ -18,12 +16,6 @@ bellkettle-responses-promised = refl
 
 bellkettle-delay-promised : bellkettle_delay.Learnt ≡ (λ κs a r e. SheetAsked (Question.Delay (a .1 .0)) (a .0 .now) r (a .1 .1 .1 .0 .now) (e .1 .1 .1 .0 .now) (a .1 .1 .0 .now) (e .1 .1 .0 .now))
 bellkettle-delay-promised = refl
-
-bellkettle-sampling-promised : bellkettle_sampling.Learnt ≡ (λ κs a r e. SheetAsked Question.Sampling (a .0 .now) r (a .1 .1 .0 .now) (e .1 .1 .0 .now) (a .1 .0 .now) (e .1 .0 .now))
-bellkettle-sampling-promised = refl
-
-bellkettle-bound-promised : bellkettle_bound.Learnt ≡ (λ κs a r e. SheetAsked Question.Bound (a .0 .now) r (a .1 .1 .0 .now) (e .1 .1 .0 .now) (a .1 .0 .now) (e .1 .0 .now))
-bellkettle-bound-promised = refl
 
 bellkettle-margin-promised : bellkettle_margin.Learnt ≡ (λ κs a r e. SheetAsked (Question.Margin (a .1 .0)) (a .0 .now) r (a .1 .1 .1 .0 .now) (e .1 .1 .1 .0 .now) (a .1 .1 .0 .now) (e .1 .1 .0 .now))
 bellkettle-margin-promised = refl

@@ -10,9 +10,9 @@ use Rattle.recurrence.specs.declared.answer.Bounds.{Bounds}
 use Rattle.recurrence.specs.Calls.{quickOf}
 use Rattle.chain.specs.declared.answer.Figure.{Figure}
 use Rattle.chain.specs.declared.answer.Summary.{Summary}
-use Rattle.chain.specs.Calls.{delayOf, samplingOf, boundOf, marginOf, defaultMarginOf, figuresOf}
+use Rattle.chain.specs.Calls.{delayOf, marginOf, defaultMarginOf, figuresOf}
 use Rattle.bellkettle.specs.declared.Question.{Question}
-use Rattle.bellkettle.specs.declared.Question.the-variants.{Responses, Delay, Sampling, Bound, Margin, DefaultMargin, Figures}
+use Rattle.bellkettle.specs.declared.Question.the-variants.{Responses, Delay, Margin, DefaultMargin, Figures}
 
 -- "A refusal returns its number": 0 where there is none.
 abbrev pub numberOf : Answer (List ℤ) → ℕ
@@ -56,8 +56,6 @@ countNumbers s = pos (s .count) ∷ pos (s .length) ∷ []
 abbrev pub answerTo : Question → ℕ → Sheet → Answer (List ℤ)
 answerTo Responses room s = inNumbers totalsNumbers (responsesOf s room)
 answerTo (Delay release) room s = inNumbers alone (delayOf s release room)
-answerTo Sampling room s = inNumbers figureNumbers (samplingOf s room)
-answerTo Bound room s = inNumbers alone (boundOf s room)
 answerTo (Margin limit) room s = inNumbers signed (marginOf s limit room)
 answerTo DefaultMargin room s = inNumbers signed (defaultMarginOf s room)
 answerTo Figures room s = inNumbers summaryNumbers (figuresOf s room)

@@ -3,12 +3,9 @@
 // lengths. What is returned and left is defined in specs/Promises.antt; include/bellkettle.h says it to those who call.
 use answers::Refusal;
 use answers::Verdict;
-use chain::Bound;
 use chain::Delay;
-use chain::Figure;
 use chain::Figures;
 use chain::Margin;
-use chain::Sampling;
 use chain::Summary;
 use recurrence::Bounds;
 use recurrence::Quick;
@@ -29,8 +26,8 @@ ghost use Rattle.sheet.specs.Tasks.{tasksOf};
 ghost use Rattle.schedule.specs.Calls.{toldTotals};
 ghost use Rattle.schedule.specs.Calls.{tableAfter};
 ghost use Rattle.recurrence.specs.Calls.{toldQuick};
-ghost use Rattle.chain.specs.Calls.{toldDelay, toldSampling, toldBound, toldMargin, toldFigures};
-ghost use Rattle.bellkettle.specs.Numbers.{inNumbers, alone, signed, totalsNumbers, figureNumbers, summaryNumbers, boundsNumbers, countNumbers, answerTo};
+ghost use Rattle.chain.specs.Calls.{toldDelay, toldMargin, toldFigures};
+ghost use Rattle.bellkettle.specs.Numbers.{inNumbers, alone, signed, totalsNumbers, summaryNumbers, boundsNumbers, countNumbers, answerTo};
 ghost use Rattle.bellkettle.specs.Fields.{periodsIn, budgetsIn, ranksIn, entriesIn, sixteen, counted, tasksCounted, taskFrom, entryFrom, sheetFrom};
 ghost use Rattle.bellkettle.specs.Promises.{SheetAsked, QuickAsked, SheetRead, SheetWritten};
 ghost use Rattle.bellkettle.specs.Replies.{mostValues, valuesTold, Tells, sizeIn};
@@ -39,8 +36,6 @@ ghost use Rattle.bellkettle.specs.Replies.{mostValues, valuesTold, Tells
 enum Question {
     Responses,
     Delay(u32),
-    Sampling,
-    Bound,
     Margin(u32),
     DefaultMargin,
     Figures,
@@ -103,16 +98,6 @@ fn signed(z: i32) -> Reply
         number: 0,
         count: 1,
         values: [wide_signed(z), 0, 0, 0, 0, 0, 0, 0, 0],
-    }
-}
-
-fn figure_numbers(f: Figure) -> Reply
-    ensures { λ reply. ⌜ Tells reply (given (figureNumbers f)) ⌝ }
-{
-    Reply {
-        number: 0,
-        count: 2,
-        values: [wide(f.ticks), wide(f.release), 0, 0, 0, 0, 0, 0, 0],
     }
 }
 
@@ -197,24 +182,6 @@ fn delay_reply(d: Delay) -> Reply
     alone(ticks)
 }
 
-fn sampling_reply(w: Sampling) -> Reply
-    ensures { λ reply. ⌜ Tells reply (inNumbers figureNumbers (toldSampling w)) ⌝ }
-{
-    let Sampling::Is(figure) = w else {
-        return refuse(chain::sampling_refusal(w));
-    };
-    figure_numbers(figure)
-}
-
-fn bound_reply(b: Bound) -> Reply
-    ensures { λ reply. ⌜ Tells reply (inNumbers alone (toldBound b)) ⌝ }
-{
-    let Bound::Ticks(ticks) = b else {
-        return refuse(chain::bound_refusal(b));
-    };
-    alone(ticks)
-}
-
 fn margin_reply(m: Margin) -> Reply
     ensures { λ reply. ⌜ Tells reply (inNumbers signed (toldMargin m)) ⌝ }
 {
@@ -260,8 +227,6 @@ fn answer(question: Question, s: Sheet, table: &mut [u32]) -> Reply
     match question {
         Question::Responses => responses_reply(schedule::responses(s, &mut *table)),
         Question::Delay(release) => delay_reply(chain::delay(s, release, &mut *table)),
-        Question::Sampling => sampling_reply(chain::sampling(s, &mut *table)),
-        Question::Bound => bound_reply(chain::bound(s, &mut *table)),
         Question::Margin(limit) => margin_reply(chain::margin(s, limit, &mut *table)),
         Question::DefaultMargin => margin_reply(chain::default_margin(s, &mut *table)),
         Question::Figures => {
@@ -328,22 +293,6 @@ pub extern "C" fn bellkettle_delay(
     ask(Question::Delay(release), sheet, &mut *table, &mut *values)
 }
 
-// The sampling figure, and the smallest release that gives it.
-#[no_mangle]
-pub extern "C" fn bellkettle_sampling(sheet: &[u8], table: &mut [u32], values: &mut [i64]) -> u8
-    ensures { λ r. ⌜ SheetAsked Question.Sampling (now (sheet .entry)) r (now (values .entry)) (now (values .exit)) (now (table .entry)) (now (table .exit)) ⌝ }
-{
-    ask(Question::Sampling, sheet, &mut *table, &mut *values)
-}
-
-// The quick bound of that figure.
-#[no_mangle]
-pub extern "C" fn bellkettle_bound(sheet: &[u8], table: &mut [u32], values: &mut [i64]) -> u8
-    ensures { λ r. ⌜ SheetAsked Question.Bound (now (sheet .entry)) r (now (values .entry)) (now (values .exit)) (now (table .entry)) (now (table .exit)) ⌝ }
-{
-    ask(Question::Bound, sheet, &mut *table, &mut *values)
-}
-
 // A limit less the worst from a flag on.
 #[no_mangle]
 pub extern "C" fn bellkettle_margin(
@@ -369,7 +318,7 @@ pub extern "C" fn bellkettle_default_margin(
     ask(Question::DefaultMargin, sheet, &mut *table, &mut *values)
 }
 
-// What a report says, from one filling of the table.
+// The figures of the chain, from one filling of the table.
 #[no_mangle]
 pub extern "C" fn bellkettle_figures(sheet: &[u8], table: &mut [u32], values: &mut [i64]) -> u8
     ensures { λ r. ⌜ SheetAsked Question.Figures (now (sheet .entry)) r (now (values .entry)) (now (values .exit)) (now (table .entry)) (now (table .exit)) ⌝ }

@@ -1,5 +1,5 @@
 -- The answers case by case: a refusal met on the way, or none, and what is known where an answer is given.
-use mathlib.Core.Path.{_≡_, refl, sym, ap, _∙_}
+use mathlib.Core.Path.{_≡_, refl, sym, ap, _∙_, subst}
 use mathlib.Core.List.{List, []}
 use mathlib.Core.Bool.{Bool, true, false, cond, false≢true}
 use Prim.Native.Nat.{ℕ, _%_, _≤_, _<_}
@@ -28,8 +28,8 @@ use Rattle.schedule.specs.Promises.{AnswersAs}
 use Rattle.schedule.specs.Results.{responses-given, given-taken}
 use Rattle.schedule.specs.Taken.{Taken, Holds}
 use Rattle.schedule.specs.RowLaws.{filled-holds}
-use Rattle.chain.specs.declared.answer.Figure.{Figure}
-use Rattle.chain.specs.Calls.{delayAt, figureOf, quickBound, fromFlag, less, noRelease, mostLimit, delayOf, samplingOf, boundOf, marginOf}
+use Rattle.chain.specs.declared.answer.Summary.{Summary}
+use Rattle.chain.specs.Calls.{delayAt, figureOf, quickBound, fromFlag, less, noRelease, mostLimit, defaultLimit, summaryOf, delayOf, marginOf, figuresOf}
 use Rattle.chain.specs.Conditions.{TakenChain}
 
 -- ---- how a call ends
@@ -83,14 +83,14 @@ module _ (s : Sheet) (room : ℕ) {size : Size} (fits : sizesOf s ≡ given size
   margin-over limit h = rw (fits, lt-ltb mostLimit limit h)
 
 -- A limit that is allowed takes no part in the refusals.
-pub margin-asked : (s : Sheet) (room limit : ℕ) → limit ≤ mostLimit → marginOf s limit room ≡ after (samplingOf s room) (λ figure. given (less limit (fromFlag (tasksOf s) (chainOf s) (figure .ticks))))
-unfolding marginOf samplingOf responsesOf
+pub margin-asked : (s : Sheet) (room limit : ℕ) → limit ≤ mostLimit → marginOf s limit room ≡ after (figuresOf s room) (λ x. given (less limit (x .worst)))
+unfolding marginOf figuresOf responsesOf
 margin-asked s room limit h = rw (le-ltb mostLimit limit h) (go (sizesOf s) _ _ _)
   where
-    go : (z : Answer Size) (fill : Size → Answer Totals) (figure : Totals → Answer Figure) (less : Figure → Answer ℤ)
-        → after z (λ size. after (after (after z fill) figure) less) ≡ after (after (after z fill) figure) less
-    go (given size) fill figure less = refl
-    go (refused number values) fill figure less = refl
+    go : (z : Answer Size) (fill : Size → Answer Totals) (sum : Totals → Answer Summary) (less : Summary → Answer ℤ)
+        → after z (λ size. after (after (after z fill) sum) less) ≡ after (after (after z fill) sum) less
+    go (given size) fill sum less = refl
+    go (refused number values) fill sum less = refl
 
 -- ---- where an answer is given
 
@@ -109,29 +109,38 @@ filled-ready s old e q =
     let g = responses-given s (length old) e in
     ((judged-sound s (g .judged-fine), given-taken s (length old) e), (g .hyperperiod-is, filled-holds s old e q))
 
-pub figure-given : {A : Type 0} (s : Sheet) (room : ℕ) (y : A) {x : A} → after (responsesOf s room) (λ totals. given y) ≡ given x → TakenChain (tasksOf s) (chainOf s) × (y ≡ x)
-figure-given s room y e =
-    let g = after-given (responsesOf s room) (λ totals. given y) e in
-    (filled-chain s room (g .1), cc (g .2))
+-- The figures that are given: the chain is taken, the totals are those of `responses`, and the rest is worked out from the chain.
+pub record FiguresGiven (s : Sheet) (room : ℕ) (x : Summary) : Type 0 where
+  pub taken : TakenChain (tasksOf s) (chainOf s)
+  pub totals-are : responsesOf s room ≡ given (x .totals)
+  pub sampling-is : x .sampling ≡ figureOf (tasksOf s) (chainOf s)
+  pub quick-is : x .«sampling_bound» ≡ quickBound (tasksOf s) (chainOf s)
+  pub worst-is : x .worst ≡ fromFlag (tasksOf s) (chainOf s) (x .sampling .ticks)
+  pub bound-is : x .bound ≡ fromFlag (tasksOf s) (chainOf s) (x .«sampling_bound»)
+  pub margin-is : x .margin ≡ less defaultLimit (x .worst)
 
-pub sampling-given : (s : Sheet) (room : ℕ) {figure : Figure} → samplingOf s room ≡ given figure → TakenChain (tasksOf s) (chainOf s) × (figureOf (tasksOf s) (chainOf s) ≡ figure)
-unfolding samplingOf
-sampling-given s room e = figure-given s room (figureOf (tasksOf s) (chainOf s)) e
-
-pub sampling-sound : (s : Sheet) (room : ℕ) {figure : Figure} → samplingOf s room ≡ given figure → Sound s
-unfolding samplingOf
-sampling-sound s room e = judged-sound s (responses-given s room (after-given (responsesOf s room) _ e .1) .judged-fine)
-
-pub bound-given : (s : Sheet) (room : ℕ) {ticks : ℕ} → boundOf s room ≡ given ticks → TakenChain (tasksOf s) (chainOf s) × (quickBound (tasksOf s) (chainOf s) ≡ ticks)
-unfolding boundOf
-bound-given s room e = figure-given s room (quickBound (tasksOf s) (chainOf s)) e
+pub figures-given : (s : Sheet) (room : ℕ) {x : Summary} → figuresOf s room ≡ given x → FiguresGiven s room x
+unfolding figuresOf
+figures-given s room {x} e = subst (FiguresGiven s room) (cc (found .2)) (record {
+  taken = filled-chain s room (found .1);
+  totals-are = found .1;
+  sampling-is = refl;
+  quick-is = refl;
+  worst-is = refl;
+  bound-is = refl;
+  margin-is = refl;
+})
+  where
+    found : (totals : Totals) × (responsesOf s room ≡ given totals) × (given (summaryOf (tasksOf s) (chainOf s) totals) ≡ given x)
+    found = after-given (responsesOf s room) _ e
 
 pub delay-given : (s : Sheet) (at room : ℕ) {ticks : ℕ} → delayOf s at room ≡ given ticks → TakenChain (tasksOf s) (chainOf s) × (delayAt (tasksOf s) (chainOf s) at ≡ ticks)
 unfolding delayOf
 delay-given s at room e =
     let judged = after-given (sizesOf s) _ e in
     let asked = also-given (when (noRelease (tasksOf s) (chainOf s) at) 12) _ (judged .2) in
-    figure-given s room (delayAt (tasksOf s) (chainOf s) at) (asked .1)
+    let filled = after-given (responsesOf s room) _ (asked .1) in
+    (filled-chain s room (filled .1), cc (filled .2))
 
 -- A delay is given at a multiple of the first task's period.
 pub delay-release : (s : Sheet) (at room : ℕ) {ticks : ℕ} → delayOf s at room ≡ given ticks → at % period (tasksOf s) (firstOf (chainOf s)) ≤ 0
@@ -147,10 +156,10 @@ delay-release s at room e =
     go false q = ltb-false 0 (at % T) q
 
 pub margin-given : (s : Sheet) (limit room : ℕ) {z : ℤ} → marginOf s limit room ≡ given z
-    → (w r : ℕ) × (samplingOf s room ≡ given (record { ticks = w; release = r })) × (less limit (fromFlag (tasksOf s) (chainOf s) w) ≡ z)
+    → (x : Summary) × (figuresOf s room ≡ given x) × (less limit (x .worst) ≡ z)
 unfolding marginOf
 margin-given s limit room e =
     let judged = after-given (sizesOf s) _ e in
     let asked = also-given (when (ltb mostLimit limit) 13) _ (judged .2) in
-    let g = after-given (samplingOf s room) _ (asked .1) in
-    (g .0 .ticks, g .0 .release, g .1, cc (g .2))
+    let g = after-given (figuresOf s room) _ (asked .1) in
+    (g .0, g .1, cc (g .2))

@@ -20,10 +20,6 @@ use Rattle.schedule.specs.declared.answer.Totals.{Totals}
 use Rattle.chain.specs.declared.answer.Figure.{Figure}
 use Rattle.chain.specs.declared.answer.Delay.{Delay}
 use Rattle.chain.specs.declared.answer.Delay.the-variants.{Ticks as DelayTicks, No as NoDelay}
-use Rattle.chain.specs.declared.answer.Sampling.{Sampling}
-use Rattle.chain.specs.declared.answer.Sampling.the-variants.{Is, No as NoSampling}
-use Rattle.chain.specs.declared.answer.Bound.{Bound}
-use Rattle.chain.specs.declared.answer.Bound.the-variants.{Ticks as BoundTicks, No as NoBound}
 use Rattle.chain.specs.declared.answer.Margin.{Margin}
 use Rattle.chain.specs.declared.answer.Margin.the-variants.{Ticks as MarginTicks, No as NoMargin}
 use Rattle.chain.specs.declared.answer.Summary.{Summary}
@@ -66,16 +62,6 @@ delayOf s release room =
     (after (responsesOf s room) λ totals.
     given (delayAt (tasksOf s) (chainOf s) release))
 
-unfoldable pub samplingOf : Sheet → ℕ → Answer Figure
-samplingOf s room =
-    after (responsesOf s room) λ totals.
-    given (figureOf (tasksOf s) (chainOf s))
-
-unfoldable pub boundOf : Sheet → ℕ → Answer ℕ
-boundOf s room =
-    after (responsesOf s room) λ totals.
-    given (quickBound (tasksOf s) (chainOf s))
-
 -- "margin limit 0 to 4,000,000"; "The call without a limit uses 1,000 ticks."
 abbrev pub mostLimit : ℕ
 mostLimit = 4000000
@@ -83,19 +69,8 @@ mostLimit = 4000000
 abbrev pub defaultLimit : ℕ
 defaultLimit = 1000
 
--- 13: "the limit is over 4,000,000"
-unfoldable pub marginOf : Sheet → ℕ → ℕ → Answer ℤ
-marginOf s limit room =
-    after (sizesOf s) λ size.
-    also (when (ltb mostLimit limit) 13)
-    (after (samplingOf s room) λ figure.
-    given (less limit (fromFlag (tasksOf s) (chainOf s) (figure .ticks))))
-
-abbrev pub defaultMarginOf : Sheet → ℕ → Answer ℤ
-defaultMarginOf s room = marginOf s defaultLimit room
-
--- What a report says: "n, H, J, idle", "the worst figure and its smallest release; the bound; the margin under the default limit"; and the
--- sampling figure and its bound, which count from a release.
+-- "one answer with sampling figure, its release, bound and idle" (document 02, P8), and what a report says besides: H, J, and from a flag on
+-- "the worst figure", "the bound; the margin under the default limit".
 abbrev pub summaryOf : List Task → List ℕ → Totals → Summary
 summaryOf ts chain totals = record {
   totals = totals;
@@ -106,23 +81,27 @@ summaryOf ts chain totals = record {
   margin = less defaultLimit (fromFlag ts chain (figureOf ts chain .ticks));
 }
 
+-- "The order of refusals is that of the worst figure": 2 to 8, 10, 11, 14, 15.
 unfoldable pub figuresOf : Sheet → ℕ → Answer Summary
 figuresOf s room =
     after (responsesOf s room) λ totals.
     given (summaryOf (tasksOf s) (chainOf s) totals)
 
+-- 13: "the limit is over 4,000,000"
+unfoldable pub marginOf : Sheet → ℕ → ℕ → Answer ℤ
+marginOf s limit room =
+    after (sizesOf s) λ size.
+    also (when (ltb mostLimit limit) 13)
+    (after (figuresOf s room) λ x.
+    given (less limit (x .worst)))
+
+abbrev pub defaultMarginOf : Sheet → ℕ → Answer ℤ
+defaultMarginOf s room = marginOf s defaultLimit room
+
 -- Document 01's answer for each case of the code's enums.
 abbrev pub toldDelay : Delay → Answer ℕ
 toldDelay (DelayTicks ticks) = given ticks
 toldDelay (NoDelay r) = refusal r
-
-abbrev pub toldSampling : Sampling → Answer Figure
-toldSampling (Is figure) = given figure
-toldSampling (NoSampling r) = refusal r
-
-abbrev pub toldBound : Bound → Answer ℕ
-toldBound (BoundTicks ticks) = given ticks
-toldBound (NoBound r) = refusal r
 
 abbrev pub toldMargin : Margin → Answer ℤ
 toldMargin (MarginTicks ticks) = given ticks
@@ -136,14 +115,6 @@ toldFigures (NoFigures r) = refusal r
 abbrev pub delayRefusal : Delay → Refusal
 delayRefusal (DelayTicks ticks) = Number 0
 delayRefusal (NoDelay r) = r
-
-abbrev pub samplingRefusal : Sampling → Refusal
-samplingRefusal (Is figure) = Number 0
-samplingRefusal (NoSampling r) = r
-
-abbrev pub boundRefusal : Bound → Refusal
-boundRefusal (BoundTicks ticks) = Number 0
-boundRefusal (NoBound r) = r
 
 abbrev pub marginRefusal : Margin → Refusal
 marginRefusal (MarginTicks ticks) = Number 0

@@ -100,5 +100,5 @@ module _ {ts : List Task} {chain : List ℕ} (taken : TakenChain ts chain) where
       }
 
   -- and from a flag on, a period more.
-  pub flag-most : (ticks : ℕ) → ticks ≤ mostFigure → fromFlag ts chain ticks ≤ mostWorst
-  flag-most ticks l = omega (arith, taken .tasks .period-most p known)
+  pub worst-most : fromFlag ts chain (figureOf ts chain .ticks) ≤ mostWorst
+  worst-most = omega (arith, sampling-most, taken .tasks .period-most p known)

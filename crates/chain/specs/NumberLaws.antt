@@ -10,19 +10,11 @@ use Rattle.schedule.specs.declared.answer.Totals.{Totals}
 use Rattle.schedule.specs.declared.answer.Size.{Size}
 use Rattle.schedule.specs.Calls.{sizesOf, responsesOf}
 use Rattle.schedule.specs.NumberLaws.{sizes-numbered, responses-numbered}
-use Rattle.chain.specs.Calls.{delayAt, figureOf, quickBound, fromFlag, less, noRelease, summaryOf, mostLimit, delayOf, samplingOf, boundOf, marginOf, figuresOf}
+use Rattle.chain.specs.Calls.{delayAt, less, noRelease, summaryOf, mostLimit, delayOf, marginOf, figuresOf}
 
 module _ (s : Sheet) (room : ℕ) where
   filled-numbered : {A : Type 0} (x : Totals → A) → Numbered 2 15 (after (responsesOf s room) (λ totals. given (x totals)))
   filled-numbered x = after-numbered (responses-numbered s room) (λ totals. given-numbered (x totals))
-
-  pub sampling-numbered : Numbered 2 15 (samplingOf s room)
-  unfolding samplingOf
-  sampling-numbered = filled-numbered (λ totals. figureOf (tasksOf s) (chainOf s))
-
-  pub bound-numbered : Numbered 2 15 (boundOf s room)
-  unfolding boundOf
-  bound-numbered = filled-numbered (λ totals. quickBound (tasksOf s) (chainOf s))
 
   pub figures-numbered : Numbered 2 15 (figuresOf s room)
   unfolding figuresOf
@@ -41,4 +33,4 @@ module _ (s : Sheet) (room : ℕ) where
   unfolding marginOf
   margin-numbered limit =
       sized-numbered (λ size. also-numbered (when-numbered (ltb mostLimit limit) 13 (omega arith) (omega arith))
-      (after-numbered sampling-numbered (λ figure. given-numbered (less limit (fromFlag (tasksOf s) (chainOf s) (figure .ticks))))))
+      (after-numbered figures-numbered (λ x. given-numbered (less limit (x .worst)))))

@@ -8,21 +8,13 @@ use Rattle.sheet.specs.declared.Sheet.{Sheet}
 use Rattle.schedule.specs.Calls.{responsesOf, greatestAfter}
 use Rattle.schedule.specs.Promises.{AnswersAs}
 use Rattle.chain.specs.declared.answer.Delay.{Delay}
-use Rattle.chain.specs.declared.answer.Sampling.{Sampling}
-use Rattle.chain.specs.declared.answer.Bound.{Bound}
 use Rattle.chain.specs.declared.answer.Margin.{Margin}
 use Rattle.chain.specs.declared.answer.Figures.{Figures}
 use Rattle.chain.specs.declared.answer.TaskFigures.{TaskFigures}
-use Rattle.chain.specs.Calls.{defaultLimit, delayOf, samplingOf, boundOf, marginOf, figuresOf, toldDelay, toldSampling, toldBound, toldMargin, toldFigures, delayRefusal, samplingRefusal, boundRefusal, marginRefusal, figuresRefusal}
+use Rattle.chain.specs.Calls.{defaultLimit, delayOf, marginOf, figuresOf, toldDelay, toldMargin, toldFigures, delayRefusal, marginRefusal, figuresRefusal}
 
 abbrev pub DelayPromise : Sheet → ℕ → List ℕ → Delay → List ℕ → Type 0
 DelayPromise s release old r table = AnswersAs (delayOf s release (length old)) s old (toldDelay r) table
-
-abbrev pub SamplingPromise : Sheet → List ℕ → Sampling → List ℕ → Type 0
-SamplingPromise s old r table = AnswersAs (samplingOf s (length old)) s old (toldSampling r) table
-
-abbrev pub BoundPromise : Sheet → List ℕ → Bound → List ℕ → Type 0
-BoundPromise s old r table = AnswersAs (boundOf s (length old)) s old (toldBound r) table
 
 abbrev pub MarginPromise : Sheet → ℕ → List ℕ → Margin → List ℕ → Type 0
 MarginPromise s limit old r table = AnswersAs (marginOf s limit (length old)) s old (toldMargin r) table
@@ -38,12 +30,6 @@ FiguresPromise s old r table =
 -- The refusal that an answer holds.
 abbrev pub DelayRefusalPromise : Delay → Refusal → Type 0
 DelayRefusalPromise answer r = r ≡ delayRefusal answer
-
-abbrev pub SamplingRefusalPromise : Sampling → Refusal → Type 0
-SamplingRefusalPromise answer r = r ≡ samplingRefusal answer
-
-abbrev pub BoundRefusalPromise : Bound → Refusal → Type 0
-BoundRefusalPromise answer r = r ≡ boundRefusal answer
 
 abbrev pub MarginRefusalPromise : Margin → Refusal → Type 0
 MarginRefusalPromise answer r = r ≡ marginRefusal answer

@@ -11,7 +11,6 @@ use Rattle.theory.specs.Model.Recurrence.{quickResponse, Passing}
 use Rattle.theory.specs.Analysis.QuickLaws.{quick-response-task, passing-late-task, late-task-passing, accepted-within}
 use Rattle.theory.specs.Results.QuickBound.{quick-bound-same}
 use Rattle.answers.specs.Answers.{given, refused}
-use Rattle.answers.specs.AnswerLaws.{after-given}
 use Rattle.sheet.specs.declared.Sheet.{Sheet}
 use Rattle.sheet.specs.PlaceLaws.{places-same}
 use Rattle.sheet.specs.SoundLaws.{judged-sound}
@@ -27,8 +26,8 @@ use Rattle.recurrence.specs.declared.answer.Bounds.{Bounds}
 use Rattle.recurrence.specs.Calls.{quickOf, responsesAfter}
 use Rattle.recurrence.specs.Results.{quick-15, given-quick, late-quick}
 use Rattle.chain.specs.declared.answer.Summary.{Summary}
-use Rattle.chain.specs.Calls.{quickBound, fromFlag, boundOf, figuresOf}
-use Rattle.chain.specs.Results.{figures-alike}
+use Rattle.chain.specs.Calls.{quickBound, fromFlag, figuresOf}
+use Rattle.chain.specs.CallLaws.{figures-given}
 
 -- A bound of this many ticks, from a release on, and with the flag's wait.
 abbrev pub withWait : Sheet → ℕ → Bounds
@@ -54,19 +53,12 @@ quick-responses-same s room e =
     ∙ places-same 0 (s .count) (quickResponse (tasksOf s)) (taskResponse (tasksOf s)) (λ i l m. quick-response-task (g .accepted .proper) i (omega (arith, tasks-length sound)))
     ∙ sym (ap (λ a. greatestAfter a s) e)
 
--- Where `bound` answers, the quick bound is the same number,
-pub quick-bound-is-bound : (s : Sheet) (room : ℕ) {b : ℕ} (answer : boundOf s room ≡ given b) → quickOf s ≡ given (withWait s b)
-unfolding boundOf
-quick-bound-is-bound s room answer =
-    let x = after-given (responsesOf s room) _ answer in
-    filled-quick s room (x .1) ∙ ap (λ b. given (withWait s b)) (cc (x .2))
-
--- and where `figures` does, the same two.
+-- Where `figures` answers, both bounds are its own.
 pub quick-bound-is-reported : (s : Sheet) (room : ℕ) {x : Summary} (answer : figuresOf s room ≡ given x)
     → quickOf s ≡ given (record { «sampling_bound» = x .«sampling_bound»; bound = x .bound })
-quick-bound-is-reported s room {x} answer =
-    let a = figures-alike s room answer in
-    quick-bound-is-bound s room (a .bound-alike) ∙ ap (λ b. given (record { «sampling_bound» = x .«sampling_bound»; bound = b })) (sym (a .bound-is))
+quick-bound-is-reported s room answer =
+    let g = figures-given s room answer in
+    rw (g .bound-is, g .quick-is) (filled-quick s room (g .totals-are))
 
 -- ---- 15
 

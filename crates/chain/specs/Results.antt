@@ -1,6 +1,6 @@
 -- Demand 3 in the words of the calls: what an answer says of every schedule of the sheet's tasks, whatever the demands of 1 to C; from a
 -- release, and from a flag that is raised at any tick.
-use mathlib.Core.Path.{_≡_, refl, sym, ap, _∙_, subst}
+use mathlib.Core.Path.{_≡_, sym, ap, _∙_, subst}
 use mathlib.Core.List.{List}
 use Prim.Native.Nat.{ℕ, _+_, _/_, _%_, _≤_, _<_}
 use native.Mathlib.Nat.{le-refl, div-add-mod'}
@@ -22,36 +22,26 @@ use Rattle.theory.specs.Results.Demand3 as demand
 use Rattle.theory.specs.Results.Demand3.{GreatestDelay}
 use Rattle.sheet.specs.declared.Sheet.{Sheet}
 use Rattle.answers.specs.Answers.{given}
-use Rattle.answers.specs.AnswerLaws.{after-given}
 use Rattle.sheet.specs.Tasks.{tasksOf, chainOf, firstOf, restOf}
-use Rattle.schedule.specs.declared.answer.Totals.{Totals}
 use Rattle.schedule.specs.Calls.{responsesOf}
-use Rattle.chain.specs.declared.answer.Figure.{Figure}
 use Rattle.chain.specs.declared.answer.Summary.{Summary}
-use Rattle.chain.specs.Calls.{fromFlag, defaultLimit, summaryOf, delayOf, samplingOf, boundOf, marginOf, defaultMarginOf, figuresOf}
+use Rattle.chain.specs.Calls.{defaultLimit, delayOf, marginOf, figuresOf}
 use Rattle.chain.specs.Conditions.{TakenChain}
 use Rattle.chain.specs.MarginLaws.{kept-within}
 use Rattle.chain.specs.ReleaseLaws.{job-release}
-use Rattle.chain.specs.CallLaws.{margin-asked, delay-release, delay-given, sampling-given, bound-given, margin-given}
+use Rattle.chain.specs.CallLaws.{margin-asked, delay-release, delay-given, figures-given, margin-given}
 
 -- ---- the words
 
--- The calls answer, for a sheet and a table of `room` entries: `sampling` the figure w from the release r, `bound` b,
--- `delay` t at a release, `margin` z under a limit, `figures` x.
-abbrev pub SamplingAnswers : Sheet → ℕ → ℕ → ℕ → Type 0
-SamplingAnswers s room w r = samplingOf s room ≡ given (record { ticks = w; release = r })
-
-abbrev pub BoundAnswers : Sheet → ℕ → ℕ → Type 0
-BoundAnswers s room b = boundOf s room ≡ given b
-
+-- The calls answer, for a sheet and a table of `room` entries: `delay` t at a release, `figures` x, `margin` z under a limit.
 abbrev pub DelayAnswers : Sheet → ℕ → ℕ → ℕ → Type 0
 DelayAnswers s at room t = delayOf s at room ≡ given t
 
-abbrev pub MarginAnswers : Sheet → ℕ → ℕ → ℤ → Type 0
-MarginAnswers s limit room z = marginOf s limit room ≡ given z
-
 abbrev pub FiguresAnswers : Sheet → ℕ → Summary → Type 0
 FiguresAnswers s room x = figuresOf s room ≡ given x
+
+abbrev pub MarginAnswers : Sheet → ℕ → ℕ → ℤ → Type 0
+MarginAnswers s limit room z = marginOf s limit room ≡ given z
 
 -- The release of job k of a chain's first task.
 abbrev pub firstRelease : List Task → List ℕ → ℕ → ℕ
@@ -105,85 +95,99 @@ module _ {ts : List Task} {chain : List ℕ} (taken : TakenChain ts chain) where
       ap (delay ts (response ts) p rest) (omega (arith, div-add-mod' r (hyperperiod ts)))
       ∙ delay-turns (taken .tasks .accepted .proper) (response ts) (λ i k l. response-again (taken .tasks .accepted) i l k) p rest at (r / hyperperiod ts) (taken .known)
 
--- From a flag on a chain takes at most the sampling figure with the wait.
-flag-sampling : (s : Sheet) (room : ℕ) {figure : Figure} → samplingOf s room ≡ given figure
-    → {d : Demands} → Within (tasksOf s) d → {run : Run} → Schedule (tasksOf s) d run → (e : ℕ)
-    → FlagStamped (chainOf s) d run e (fromFlag (tasksOf s) (chainOf s) (figure .ticks))
-flag-sampling s room answer {d} within {run} schedule e =
-    let g = sampling-given s room answer in
-    subst (λ f. FlagStamped (chainOf s) d run e (fromFlag (tasksOf s) (chainOf s) (f .ticks))) (g .1)
-    (no-flag-exceeds (tasksOf s) (g .0 .tasks .accepted) (firstOf (chainOf s)) (restOf (chainOf s)) (g .0 .known) d within run schedule e)
+-- ---- `figures`, from a release
 
--- A margin that is not below zero leaves room for it.
-margin-within : (s : Sheet) (limit room : ℕ) {z : ℤ} (answer : marginOf s limit room ≡ given z) → pos 0 ≤ℤ z
-    → fromFlag (tasksOf s) (chainOf s) (margin-given s limit room answer .0) ≤ limit
-margin-within s limit room answer kept =
-    let g = margin-given s limit room answer in
-    kept-within limit (fromFlag (tasksOf s) (chainOf s) (g .0)) (subst (λ x. pos 0 ≤ℤ x) (sym (g .3)) kept)
-
--- ---- `sampling`
-
--- No schedule exceeds the figure. If `sampling` answers w, then for all demands of 1 to C, every run that is a schedule for them and every
--- job of the chain's first task the path from it exists, and ends no later than w after the job's release.
+-- No schedule exceeds the sampling figure. If `figures` answers x, then for all demands of 1 to C, every run that is a schedule for them and
+-- every job of the chain's first task the path from it exists, and ends no later than the sampling figure of x after the job's release.
 pub no-schedule-exceeds-sampling :
-    (s : Sheet) (room w r : ℕ) (answer : SamplingAnswers s room w r)
+    (s : Sheet) (room : ℕ) (x : Summary) (answer : FiguresAnswers s room x)
     (d : Demands) (within : Within (tasksOf s) d) (run : Run) (schedule : Schedule (tasksOf s) d run) (k : ℕ)
-    → PathWithin (tasksOf s) (chainOf s) d run k w
-no-schedule-exceeds-sampling s room w r answer d within run schedule k =
-    let g = sampling-given s room answer in subst (PathWithin (tasksOf s) (chainOf s) d run k) (ap (λ f. f .ticks) (g .1)) (path-sampling (g .0) within schedule k)
+    → PathWithin (tasksOf s) (chainOf s) d run k (x .sampling .ticks)
+no-schedule-exceeds-sampling s room x answer d within run schedule k =
+    let g = figures-given s room answer in rw (g .sampling-is) (path-sampling (g .taken) within schedule k)
 
--- No reading is late, unless a newer one is in its place. If `sampling` answers w, then for all demands of 1 to C, every run that is a schedule
--- for them and every job of the chain's first task its reading or a newer one arrives, no later than w after the job's release.
+-- No reading is late, unless a newer one is in its place. If `figures` answers x, then for all demands of 1 to C, every run that is a schedule
+-- for them and every job of the chain's first task its reading or a newer one arrives, no later than the sampling figure after the job's release.
 pub reading-arrives-within-sampling :
-    (s : Sheet) (room w r : ℕ) (answer : SamplingAnswers s room w r)
+    (s : Sheet) (room : ℕ) (x : Summary) (answer : FiguresAnswers s room x)
     (d : Demands) (within : Within (tasksOf s) d) (run : Run) (schedule : Schedule (tasksOf s) d run) (k : ℕ)
-    → (f : ℕ) × ReadingArrives (chainOf s) d run k f × (f ≤ firstRelease (tasksOf s) (chainOf s) k + w)
-reading-arrives-within-sampling s room w r answer d within run schedule k =
-    let g = sampling-given s room answer in
-    let x = demand.reading-arrives (tasksOf s) (g .0 .tasks .accepted) (firstOf (chainOf s)) (restOf (chainOf s)) (g .0 .known) d within run schedule k in
-    (x .0, x .1, omega (arith, x .2, ap (λ f. f .ticks) (g .1)))
+    → (f : ℕ) × ReadingArrives (chainOf s) d run k f × (f ≤ firstRelease (tasksOf s) (chainOf s) k + x .sampling .ticks)
+reading-arrives-within-sampling s room x answer d within run schedule k =
+    let g = figures-given s room answer in
+    rw (g .sampling-is) (demand.reading-arrives (tasksOf s) (g .taken .tasks .accepted) (firstOf (chainOf s)) (restOf (chainOf s)) (g .taken .known) d within run schedule k)
 
--- The figure never exceeds what `bound` answers.
-pub sampling-within-bound :
-    (s : Sheet) (room w r : ℕ) (answer : SamplingAnswers s room w r) (room′ b : ℕ) (answer′ : BoundAnswers s room′ b)
-    → w ≤ b
-sampling-within-bound s room w r answer room′ b answer′ =
-    let g = sampling-given s room answer in
-    omega (arith, ap (λ f. f .ticks) (g .1), bound-given s room′ answer′ .1, demand.sampling-within-bound (tasksOf s) (g .0 .tasks .accepted) (firstOf (chainOf s)) (restOf (chainOf s)) (g .0 .known))
+-- The sampling figure never exceeds its quick bound,
+pub sampling-within-bound : (s : Sheet) (room : ℕ) (x : Summary) (answer : FiguresAnswers s room x) → x .sampling .ticks ≤ x .«sampling_bound»
+sampling-within-bound s room x answer =
+    let g = figures-given s room answer in
+    rw (g .sampling-is, g .quick-is) (demand.sampling-within-bound (tasksOf s) (g .taken .tasks .accepted) (firstOf (chainOf s)) (restOf (chainOf s)) (g .taken .known))
 
--- w is the greatest delay over all releases of the first task, not only those before H, and r the smallest release that gives it.
+-- so no schedule exceeds the bound either.
+pub no-schedule-exceeds-bound :
+    (s : Sheet) (room : ℕ) (x : Summary) (answer : FiguresAnswers s room x)
+    (d : Demands) (within : Within (tasksOf s) d) (run : Run) (schedule : Schedule (tasksOf s) d run) (k : ℕ)
+    → PathWithin (tasksOf s) (chainOf s) d run k (x .«sampling_bound»)
+no-schedule-exceeds-bound s room x answer d within run schedule k =
+    path-later (sampling-within-bound s room x answer) (no-schedule-exceeds-sampling s room x answer d within run schedule k)
+
+-- The sampling figure is the greatest delay over all releases of the first task, not only those before H, and its release the smallest that
+-- gives it.
 pub sampling-is-greatest :
-    (s : Sheet) (room w r : ℕ) (answer : SamplingAnswers s room w r)
-    → GreatestDelay (tasksOf s) (firstOf (chainOf s)) (restOf (chainOf s)) w r
-sampling-is-greatest s room w r answer =
-    let g = sampling-given s room answer in
-    subst (λ f. GreatestDelay (tasksOf s) (firstOf (chainOf s)) (restOf (chainOf s)) (f .ticks) (f .release)) (g .1)
-    (demand.sampling-of-all (tasksOf s) (g .0 .tasks .accepted) (firstOf (chainOf s)) (restOf (chainOf s)) (g .0 .known))
+    (s : Sheet) (room : ℕ) (x : Summary) (answer : FiguresAnswers s room x)
+    → GreatestDelay (tasksOf s) (firstOf (chainOf s)) (restOf (chainOf s)) (x .sampling .ticks) (x .sampling .release)
+sampling-is-greatest s room x answer =
+    let g = figures-given s room answer in
+    rw (g .sampling-is) (demand.sampling-of-all (tasksOf s) (g .taken .tasks .accepted) (firstOf (chainOf s)) (restOf (chainOf s)) (g .taken .known))
 
--- Where ranks rise along the chain, the full-budget schedule reaches it: the path from the job released at r takes exactly w.
+-- Where ranks rise along the chain, the full-budget schedule reaches it: the path from the job released there takes exactly as long.
 pub sampling-is-reached :
-    (s : Sheet) (room w r : ℕ) (answer : SamplingAnswers s room w r) (rising : RanksRise (tasksOf s) (chainOf s))
+    (s : Sheet) (room : ℕ) (x : Summary) (answer : FiguresAnswers s room x) (rising : RanksRise (tasksOf s) (chainOf s))
     (run : Run) (schedule : Schedule (tasksOf s) (full (tasksOf s)) run)
-    → (k : ℕ) × (firstRelease (tasksOf s) (chainOf s) k ≡ r) × ChainPath (chainOf s) (full (tasksOf s)) run k (r + w)
-sampling-is-reached s room w r answer rising run schedule =
-    let g = sampling-given s room answer in (
-      r / period (tasksOf s) (firstOf (chainOf s)),
-      sampling-is-greatest s room w r answer .first-task,
-      subst (λ f. ChainPath (chainOf s) (full (tasksOf s)) run (f .release / period (tasksOf s) (firstOf (chainOf s))) (f .release + f .ticks)) (g .1)
-          (demand.sampling-reached (tasksOf s) (g .0 .tasks .accepted) (firstOf (chainOf s)) (restOf (chainOf s)) (g .0 .known) rising run schedule),
+    → (k : ℕ) × (firstRelease (tasksOf s) (chainOf s) k ≡ x .sampling .release)
+    × ChainPath (chainOf s) (full (tasksOf s)) run k (x .sampling .release + x .sampling .ticks)
+sampling-is-reached s room x answer rising run schedule =
+    let g = figures-given s room answer in (
+      x .sampling .release / period (tasksOf s) (firstOf (chainOf s)),
+      sampling-is-greatest s room x answer .first-task,
+      rw (g .sampling-is) (demand.sampling-reached (tasksOf s) (g .taken .tasks .accepted) (firstOf (chainOf s)) (restOf (chainOf s)) (g .taken .known) rising run schedule),
     )
 
--- ---- `bound`
+-- ---- `figures`, from a flag on
 
--- No schedule exceeds the quick bound either.
-pub no-schedule-exceeds-bound :
-    (s : Sheet) (room b : ℕ) (answer : BoundAnswers s room b)
-    (d : Demands) (within : Within (tasksOf s) d) (run : Run) (schedule : Schedule (tasksOf s) d run) (k : ℕ)
-    → PathWithin (tasksOf s) (chainOf s) d run k b
-no-schedule-exceeds-bound s room b answer d within run schedule k =
-    let g = bound-given s room answer in
-    path-later (omega (arith, g .1, demand.sampling-within-bound (tasksOf s) (g .0 .tasks .accepted) (firstOf (chainOf s)) (restOf (chainOf s)) (g .0 .known)))
-    (path-sampling (g .0) within schedule k)
+-- No flag exceeds the worst. If `figures` answers x, then for all demands of 1 to C, every run that is a schedule for them and every tick e
+-- there is a first job of the chain's first task that starts at or after e; the path from it exists, and ends no later than the worst of x
+-- after e; and the reading that arrives there stems from a job that started at or after e.
+pub no-flag-exceeds-worst :
+    (s : Sheet) (room : ℕ) (x : Summary) (answer : FiguresAnswers s room x)
+    (d : Demands) (within : Within (tasksOf s) d) (run : Run) (schedule : Schedule (tasksOf s) d run) (e : ℕ)
+    → FlagStamped (chainOf s) d run e (x .worst)
+no-flag-exceeds-worst s room x answer d within run schedule e =
+    let g = figures-given s room answer in
+    rw (g .worst-is, g .sampling-is) (no-flag-exceeds (tasksOf s) (g .taken .tasks .accepted) (firstOf (chainOf s)) (restOf (chainOf s)) (g .taken .known) d within run schedule e)
+
+-- The worst never exceeds the bound,
+pub worst-within-bound : (s : Sheet) (room : ℕ) (x : Summary) (answer : FiguresAnswers s room x) → x .worst ≤ x .bound
+worst-within-bound s room x answer =
+    let g = figures-given s room answer in omega (arith, g .worst-is, g .bound-is, sampling-within-bound s room x answer)
+
+-- so no flag exceeds the bound either.
+pub no-flag-exceeds-bound :
+    (s : Sheet) (room : ℕ) (x : Summary) (answer : FiguresAnswers s room x)
+    (d : Demands) (within : Within (tasksOf s) d) (run : Run) (schedule : Schedule (tasksOf s) d run) (e : ℕ)
+    → FlagStamped (chainOf s) d run e (x .bound)
+no-flag-exceeds-bound s room x answer d within run schedule e =
+    flag-later (worst-within-bound s room x answer) (no-flag-exceeds-worst s room x answer d within run schedule e)
+
+-- ---- `figures` and its neighbours
+
+-- H, J and idle are those that `responses` answers, and the margin is that of the call without a limit: what is said of these holds of
+-- the one answer too.
+pub figures-totals : (s : Sheet) (room : ℕ) (x : Summary) (answer : FiguresAnswers s room x) → responsesOf s room ≡ given (x .totals)
+figures-totals s room x answer = figures-given s room answer .totals-are
+
+pub figures-margin : (s : Sheet) (room : ℕ) (x : Summary) (answer : FiguresAnswers s room x) → MarginAnswers s defaultLimit room (x .margin)
+figures-margin s room x answer =
+    margin-asked s room defaultLimit (omega arith) ∙ rw (answer) (ap given (sym (figures-given s room answer .margin-is)))
 
 -- ---- `delay`
 
@@ -215,64 +219,12 @@ delay-is-reached s at room t answer rising run schedule k released =
     (delay-modulo (g .0) (firstRelease (tasksOf s) (chainOf s) k) at released ∙ g .1)
     (path-exact (g .0 .tasks .accepted) schedule (firstOf (chainOf s)) (restOf (chainOf s)) (g .0 .known) rising k)
 
--- ---- `figures`
-
--- What `figures` gives is what the calls for each of its parts give, so that everything above holds of it; worst and bound are these with the
--- wait for a flag.
-pub record Alike (s : Sheet) (room : ℕ) (x : Summary) : Type 0 where
-  pub totals-alike : responsesOf s room ≡ given (x .totals)
-  pub sampling-alike : samplingOf s room ≡ given (x .sampling)
-  pub bound-alike : boundOf s room ≡ given (x .«sampling_bound»)
-  pub margin-alike : defaultMarginOf s room ≡ given (x .margin)
-  pub worst-is : x .worst ≡ fromFlag (tasksOf s) (chainOf s) (x .sampling .ticks)
-  pub bound-is : x .bound ≡ fromFlag (tasksOf s) (chainOf s) (x .«sampling_bound»)
-
-pub figures-alike : (s : Sheet) (room : ℕ) {x : Summary} → figuresOf s room ≡ given x → Alike s room x
-unfolding figuresOf samplingOf boundOf
-figures-alike s room {x} e = record {
-  totals-alike = filled;
-  sampling-alike = rw (filled) (ap (λ a. given (a .sampling)) same);
-  bound-alike = rw (filled) (ap (λ a. given (a .«sampling_bound»)) same);
-  margin-alike = margin-asked s room defaultLimit (omega arith) ∙ rw (filled) (ap (λ a. given (a .margin)) same);
-  worst-is = subst (λ a. a .worst ≡ fromFlag (tasksOf s) (chainOf s) (a .sampling .ticks)) same refl;
-  bound-is = subst (λ a. a .bound ≡ fromFlag (tasksOf s) (chainOf s) (a .«sampling_bound»)) same refl;
-}
-  where
-    found : (totals : Totals) × (responsesOf s room ≡ given totals) × (given (summaryOf (tasksOf s) (chainOf s) totals) ≡ given x)
-    found = after-given (responsesOf s room) _ e
-
-    same : summaryOf (tasksOf s) (chainOf s) (found .0) ≡ x
-    same = cc (found .2)
-
-    filled : responsesOf s room ≡ given (x .totals)
-    filled = found .1 ∙ ap (λ a. given (a .totals)) same
-
--- No flag exceeds the worst. If `figures` answers x, then for all demands of 1 to C, every run that is a schedule for them and every tick e
--- there is a first job of the chain's first task that starts at or after e; the path from it exists, and ends no later than the worst of x
--- after e; and the reading that arrives there stems from a job that started at or after e.
-pub no-flag-exceeds-worst :
-    (s : Sheet) (room : ℕ) (x : Summary) (answer : FiguresAnswers s room x)
-    (d : Demands) (within : Within (tasksOf s) d) (run : Run) (schedule : Schedule (tasksOf s) d run) (e : ℕ)
-    → FlagStamped (chainOf s) d run e (x .worst)
-no-flag-exceeds-worst s room x answer d within run schedule e =
-    let a = figures-alike s room answer in
-    rw (a .worst-is) (flag-sampling s room (a .sampling-alike) within schedule e)
-
--- The worst never exceeds the bound,
-pub worst-within-bound : (s : Sheet) (room : ℕ) (x : Summary) (answer : FiguresAnswers s room x) → x .worst ≤ x .bound
-worst-within-bound s room x answer =
-    let a = figures-alike s room answer in
-    omega (arith, a .worst-is, a .bound-is, sampling-within-bound s room (x .sampling .ticks) (x .sampling .release) (a .sampling-alike) room (x .«sampling_bound») (a .bound-alike))
-
--- so no flag exceeds the bound either.
-pub no-flag-exceeds-bound :
-    (s : Sheet) (room : ℕ) (x : Summary) (answer : FiguresAnswers s room x)
-    (d : Demands) (within : Within (tasksOf s) d) (run : Run) (schedule : Schedule (tasksOf s) d run) (e : ℕ)
-    → FlagStamped (chainOf s) d run e (x .bound)
-no-flag-exceeds-bound s room x answer d within run schedule e =
-    flag-later (worst-within-bound s room x answer) (no-flag-exceeds-worst s room x answer d within run schedule e)
-
 -- ---- `margin`
+
+-- A margin that is not below zero leaves room for the worst.
+margin-within : (s : Sheet) (limit room : ℕ) {z : ℤ} (answer : marginOf s limit room ≡ given z) → pos 0 ≤ℤ z → margin-given s limit room answer .0 .worst ≤ limit
+margin-within s limit room answer kept =
+    let g = margin-given s limit room answer in kept-within limit (g .0 .worst) (subst (λ x. pos 0 ≤ℤ x) (sym (g .2)) kept)
 
 -- The sign tells whether the limit is kept. If the margin is not below zero, every flag in every schedule is stamped within the limit,
 pub margin-keeps :
@@ -281,7 +233,7 @@ pub margin-keeps :
     → FlagStamped (chainOf s) d run e limit
 margin-keeps s limit room z answer kept d within run schedule e =
     let g = margin-given s limit room answer in
-    flag-later (margin-within s limit room answer kept) (flag-sampling s room (g .2) within schedule e)
+    flag-later (margin-within s limit room answer kept) (no-flag-exceeds-worst s room (g .0) (g .1) d within run schedule e)
 
 -- and so every path keeps it, from the release of its first job on.
 pub margin-keeps-paths :
@@ -290,13 +242,15 @@ pub margin-keeps-paths :
     → PathWithin (tasksOf s) (chainOf s) d run k limit
 margin-keeps-paths s limit room z answer kept d within run schedule k =
     let g = margin-given s limit room answer in
-    path-later (omega (arith, margin-within s limit room answer kept)) (no-schedule-exceeds-sampling s room (g .0) (g .1) (g .2) d within run schedule k)
+    path-later (omega (arith, margin-within s limit room answer kept, figures-given s room (g .1) .worst-is))
+    (no-schedule-exceeds-sampling s room (g .0) (g .1) d within run schedule k)
 
 -- Where ranks rise along the chain, a limit below the sampling figure is exceeded by a path of the full-budget schedule. Of a limit between
 -- the sampling figure and the worst nothing is said: the worst need not be reached.
 pub limit-exceeded :
-    (s : Sheet) (room w r : ℕ) (answer : SamplingAnswers s room w r) (limit : ℕ) (below : limit < w) (rising : RanksRise (tasksOf s) (chainOf s))
-    (run : Run) (schedule : Schedule (tasksOf s) (full (tasksOf s)) run)
+    (s : Sheet) (room : ℕ) (x : Summary) (answer : FiguresAnswers s room x) (limit : ℕ) (below : limit < x .sampling .ticks)
+    (rising : RanksRise (tasksOf s) (chainOf s)) (run : Run) (schedule : Schedule (tasksOf s) (full (tasksOf s)) run)
     → (k f : ℕ) × ChainPath (chainOf s) (full (tasksOf s)) run k f × (firstRelease (tasksOf s) (chainOf s) k + limit < f)
-limit-exceeded s room w r answer limit below rising run schedule =
-    let x = sampling-is-reached s room w r answer rising run schedule in (x .0, r + w, x .2, omega (arith, x .1))
+limit-exceeded s room x answer limit below rising run schedule =
+    let reached = sampling-is-reached s room x answer rising run schedule in
+    (reached .0, x .sampling .release + x .sampling .ticks, reached .2, omega (arith, reached .1))

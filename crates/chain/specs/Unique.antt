@@ -7,17 +7,13 @@ use Rattle.answers.specs.declared.Refusal.{Refusal}
 use Rattle.answers.specs.AnswerLaws.{refused-given, refusal-unique}
 use Rattle.chain.specs.declared.answer.Delay.{Delay}
 use Rattle.chain.specs.declared.answer.Delay.the-variants.{Ticks as DelayTicks, No as NoDelay}
-use Rattle.chain.specs.declared.answer.Sampling.{Sampling}
-use Rattle.chain.specs.declared.answer.Sampling.the-variants.{Is, No as NoSampling}
-use Rattle.chain.specs.declared.answer.Bound.{Bound}
-use Rattle.chain.specs.declared.answer.Bound.the-variants.{Ticks as BoundTicks, No as NoBound}
 use Rattle.chain.specs.declared.answer.Margin.{Margin}
 use Rattle.chain.specs.declared.answer.Margin.the-variants.{Ticks as MarginTicks, No as NoMargin}
 use Rattle.chain.specs.declared.answer.Figures.{Figures}
 use Rattle.chain.specs.declared.answer.Figures.the-variants.{Of, No as NoFigures}
 use Rattle.chain.specs.declared.answer.TaskFigures.{TaskFigures}
-use Rattle.chain.specs.Calls.{defaultLimit, toldDelay, toldSampling, toldBound, toldMargin, toldFigures}
-use Rattle.chain.specs.Promises.{DelayPromise, SamplingPromise, BoundPromise, MarginPromise, DefaultMarginPromise, FiguresPromise, DelayRefusalPromise, SamplingRefusalPromise, BoundRefusalPromise, MarginRefusalPromise, FiguresRefusalPromise}
+use Rattle.chain.specs.Calls.{defaultLimit, toldDelay, toldMargin, toldFigures}
+use Rattle.chain.specs.Promises.{DelayPromise, MarginPromise, DefaultMarginPromise, FiguresPromise, DelayRefusalPromise, MarginRefusalPromise, FiguresRefusalPromise}
 
 -- Document 01's answer tells the case of the enum.
 
@@ -26,18 +22,6 @@ delay-told (DelayTicks m) (DelayTicks n) e = cc
 delay-told (DelayTicks m) (NoDelay q) e = refused-given (sym e)
 delay-told (NoDelay r) (DelayTicks n) e = refused-given e
 delay-told (NoDelay r) (NoDelay q) e = ap NoDelay (refusal-unique r q e)
-
-sampling-told : (x y : Sampling) → toldSampling x ≡ toldSampling y → x ≡ y
-sampling-told (Is f) (Is g) e = cc
-sampling-told (Is f) (NoSampling q) e = refused-given (sym e)
-sampling-told (NoSampling r) (Is g) e = refused-given e
-sampling-told (NoSampling r) (NoSampling q) e = ap NoSampling (refusal-unique r q e)
-
-bound-told : (x y : Bound) → toldBound x ≡ toldBound y → x ≡ y
-bound-told (BoundTicks m) (BoundTicks n) e = cc
-bound-told (BoundTicks m) (NoBound q) e = refused-given (sym e)
-bound-told (NoBound r) (BoundTicks n) e = refused-given e
-bound-told (NoBound r) (NoBound q) e = ap NoBound (refusal-unique r q e)
 
 margin-told : (x y : Margin) → toldMargin x ≡ toldMargin y → x ≡ y
 margin-told (MarginTicks m) (MarginTicks n) e = cc
@@ -57,12 +41,6 @@ module _ (s : Sheet) (old table table′ : List ℕ) where
   pub delay-unique : (release : ℕ) (x y : Delay) → DelayPromise s release old x table → DelayPromise s release old y table′ → (x ≡ y) × (table ≡ table′)
   delay-unique release x y p q = (delay-told x y (p .0 ∙ sym (q .0)), p .1 ∙ sym (q .1))
 
-  pub sampling-unique : (x y : Sampling) → SamplingPromise s old x table → SamplingPromise s old y table′ → (x ≡ y) × (table ≡ table′)
-  sampling-unique x y p q = (sampling-told x y (p .0 ∙ sym (q .0)), p .1 ∙ sym (q .1))
-
-  pub bound-unique : (x y : Bound) → BoundPromise s old x table → BoundPromise s old y table′ → (x ≡ y) × (table ≡ table′)
-  bound-unique x y p q = (bound-told x y (p .0 ∙ sym (q .0)), p .1 ∙ sym (q .1))
-
   pub margin-unique : (limit : ℕ) (x y : Margin) → MarginPromise s limit old x table → MarginPromise s limit old y table′ → (x ≡ y) × (table ≡ table′)
   margin-unique limit x y p q = (margin-told x y (p .0 ∙ sym (q .0)), p .1 ∙ sym (q .1))
 
@@ -77,12 +55,6 @@ module _ (s : Sheet) (old table table′ : List ℕ) where
 
 pub delay-refusal-unique : (answer : Delay) (x y : Refusal) → DelayRefusalPromise answer x → DelayRefusalPromise answer y → x ≡ y
 delay-refusal-unique answer x y p q = p ∙ sym q
-
-pub sampling-refusal-unique : (answer : Sampling) (x y : Refusal) → SamplingRefusalPromise answer x → SamplingRefusalPromise answer y → x ≡ y
-sampling-refusal-unique answer x y p q = p ∙ sym q
-
-pub bound-refusal-unique : (answer : Bound) (x y : Refusal) → BoundRefusalPromise answer x → BoundRefusalPromise answer y → x ≡ y
-bound-refusal-unique answer x y p q = p ∙ sym q
 
 pub margin-refusal-unique : (answer : Margin) (x y : Refusal) → MarginRefusalPromise answer x → MarginRefusalPromise answer y → x ≡ y
 margin-refusal-unique answer x y p q = p ∙ sym q

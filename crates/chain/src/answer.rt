@@ -14,14 +14,10 @@ pub struct Figure {
     pub release: u32,
 }
 
-pub enum Sampling {
-    Is(Figure),
-    No(Refusal),
-}
-
-pub enum Bound {
-    Ticks(u32),
-    No(Refusal),
+// The sampling figure of a chain, and its quick bound.
+pub struct FigureAndBound {
+    pub figure: Figure,
+    pub bound: u32,
 }
 
 // A limit less the worst from a flag on.
@@ -30,8 +26,8 @@ pub enum Margin {
     No(Refusal),
 }
 
-// What a report says: H, J and the idle ticks; the sampling figure and its bound, which count from a release; and the worst, the
-// bound and the margin under the default limit, which count from a flag.
+// What one filling of the table gives: H, J and the idle ticks; the sampling figure and its bound, which count from a release; and the
+// worst, the bound and the margin under the default limit, which count from a flag.
 pub struct Summary {
     pub totals: Totals,
     pub sampling: Figure,

@@ -3,13 +3,12 @@
 // What is answered and left in the table is defined in specs/Calls.antt; what that says of every schedule stands in specs/Results.antt.
 mod answer;
 
-pub use answer::Bound;
 pub use answer::Delay;
 pub use answer::Figure;
+use answer::FigureAndBound;
 pub use answer::Figures;
 use answer::HandOver;
 pub use answer::Margin;
-pub use answer::Sampling;
 pub use answer::Summary;
 pub use answer::TaskFigures;
 use answers::Refusal;
@@ -25,7 +24,7 @@ ghost use Rattle.sheet.specs.Sound.{Sound};
 ghost use Rattle.sheet.specs.Tasks.{tasksOf, chainOf, firstOf};
 ghost use Rattle.schedule.specs.Calls.{mostTicks};
 ghost use Rattle.chain.specs.Calls.{delayAt, figureOf, quickBound, fromFlag, less, mostLimit};
-ghost use Rattle.chain.specs.Promises.{DelayPromise, SamplingPromise, BoundPromise, MarginPromise, DefaultMarginPromise, FiguresPromise, DelayRefusalPromise, SamplingRefusalPromise, BoundRefusalPromise, MarginRefusalPromise, FiguresRefusalPromise};
+ghost use Rattle.chain.specs.Promises.{DelayPromise, MarginPromise, DefaultMarginPromise, FiguresPromise, DelayRefusalPromise, MarginRefusalPromise, FiguresRefusalPromise};
 ghost use Rattle.schedule.specs.Taken.{Taken, Holds};
 ghost use Rattle.chain.specs.Conditions.{mostPeriod, mostWait, mostFigure, mostWorst, mostRelease, periodIn, countIn, rowsIn, greatestIn, delayIn, boundIn, pairIn, onward, ahead, HandedOver, FirstHandedOver, RowIn, TaskIn, ChainIn, Greatest, Planned};
 
@@ -212,30 +211,19 @@ fn delay_in(s: Sheet, h: u32, k: u32, table: &[u32]) -> u32
     walk(&chain[..m], k, &plan, table)
 }
 
-// The sampling figure of the sheet's chain.
-fn sampling_in(s: Sheet, h: u32, table: &[u32]) -> Figure
+// The sampling figure of the sheet's chain, and its quick bound.
+fn figure_and_bound(s: Sheet, h: u32, table: &[u32]) -> FigureAndBound
     requires { ⌜ Sound s × Taken (tasksOf s) ⌝ }
     requires { ⌜ h ≡ hyperperiod (tasksOf s) ⌝ }
     requires { ⌜ Holds (tasksOf s) (now table) ⌝ }
-    ensures { λ r. ⌜ r ≡ figureOf (tasksOf s) (chainOf s) ⌝ }
+    ensures { λ r. ⌜ (r .figure ≡ figureOf (tasksOf s) (chainOf s)) × (r .bound ≡ quickBound (tasksOf s) (chainOf s)) ⌝ }
 {
     let plan = plan_of(s, h);
     let chain = s.chain;
     let m = s.length as usize;
-    sampling_along(&chain[..m], &plan, table)
-}
-
-// The quick bound of the sheet's chain.
-fn bound_in(s: Sheet, h: u32, table: &[u32]) -> u32
-    requires { ⌜ Sound s × Taken (tasksOf s) ⌝ }
-    requires { ⌜ h ≡ hyperperiod (tasksOf s) ⌝ }
-    requires { ⌜ Holds (tasksOf s) (now table) ⌝ }
-    ensures { λ r. ⌜ r ≡ quickBound (tasksOf s) (chainOf s) ⌝ }
-{
-    let plan = plan_of(s, h);
-    let chain = s.chain;
-    let m = s.length as usize;
-    bound_along(&chain[..m], &plan, table)
+    let figure = sampling_along(&chain[..m], &plan, table);
+    let bound = bound_along(&chain[..m], &plan, table);
+    FigureAndBound { figure, bound }
 }
 
 // T of the chain's first task.
@@ -271,24 +259,6 @@ pub fn delay_refusal(d: Delay) -> Refusal
     ensures { λ r. ⌜ DelayRefusalPromise d r ⌝ }
 {
     let Delay::No(r) = d else {
-        return Refusal::Number(0);
-    };
-    r
-}
-
-pub fn sampling_refusal(w: Sampling) -> Refusal
-    ensures { λ r. ⌜ SamplingRefusalPromise w r ⌝ }
-{
-    let Sampling::No(r) = w else {
-        return Refusal::Number(0);
-    };
-    r
-}
-
-pub fn bound_refusal(b: Bound) -> Refusal
-    ensures { λ r. ⌜ BoundRefusalPromise b r ⌝ }
-{
-    let Bound::No(r) = b else {
         return Refusal::Number(0);
     };
     r
@@ -334,56 +304,7 @@ pub fn delay(s: Sheet, release: u32, table: &mut [u32]) -> Delay
     Delay::Ticks(delay_in(s, totals.hyperperiod, release / period, &*table))
 }
 
-// The greatest delay of the sheet's chain, and the smallest release that gives it.
-pub fn sampling(s: Sheet, table: &mut [u32]) -> Sampling
-    ensures { λ r. ⌜ SamplingPromise s (now (table .entry)) r (now (table .exit)) ⌝ }
-{
-    let filled = schedule::responses(s, &mut *table);
-    let Responses::Table(totals) = filled else {
-        return Sampling::No(schedule::responses_refusal(filled));
-    };
-    Sampling::Is(sampling_in(s, totals.hyperperiod, &*table))
-}
-
-// The quick bound of the sheet's chain.
-pub fn bound(s: Sheet, table: &mut [u32]) -> Bound
-    ensures { λ r. ⌜ BoundPromise s (now (table .entry)) r (now (table .exit)) ⌝ }
-{
-    let filled = schedule::responses(s, &mut *table);
-    let Responses::Table(totals) = filled else {
-        return Bound::No(schedule::responses_refusal(filled));
-    };
-    Bound::Ticks(bound_in(s, totals.hyperperiod, &*table))
-}
-
-// A limit less the worst from a flag on: "the sign tells whether the limit is kept".
-pub fn margin(s: Sheet, limit: u32, table: &mut [u32]) -> Margin
-    ensures { λ r. ⌜ MarginPromise s limit (now (table .entry)) r (now (table .exit)) ⌝ }
-{
-    if MOST_LIMIT < limit {
-        let z = schedule::sizes(s);
-        let Sizes::Of(_) = z else {
-            return Margin::No(schedule::sizes_refusal(z));
-        };
-        return Margin::No(Refusal::Number(13));
-    }
-    let w = sampling(s, &mut *table);
-    let Sampling::Is(figure) = w else {
-        return Margin::No(sampling_refusal(w));
-    };
-    let worst = from_flag(s, figure.ticks);
-    Margin::Ticks(less_of(limit, worst))
-}
-
-// "The call without a limit uses 1,000 ticks."
-pub fn default_margin(s: Sheet, table: &mut [u32]) -> Margin
-    ensures { λ r. ⌜ DefaultMarginPromise s (now (table .entry)) r (now (table .exit)) ⌝ }
-{
-    margin(s, DEFAULT_LIMIT, &mut *table)
-}
-
-// What a report says, from one filling of the table, with "R, the greatest response" of each task in its place; zeros where it is
-// refused.
+// What one filling of the table gives, with "R, the greatest response" of each task in its place; zeros where it is refused.
 pub fn figures(s: Sheet, table: &mut [u32]) -> TaskFigures
     ensures { λ r. ⌜ FiguresPromise s (now (table .entry)) r (now (table .exit)) ⌝ }
 {
@@ -397,15 +318,15 @@ pub fn figures(s: Sheet, table: &mut [u32]) -> TaskFigures
             greatest,
         };
     };
-    let sampling = sampling_in(s, totals.hyperperiod, &*table);
-    let sampling_bound = bound_in(s, totals.hyperperiod, &*table);
+    let pair = figure_and_bound(s, totals.hyperperiod, &*table);
+    let sampling = pair.figure;
     let worst = from_flag(s, sampling.ticks);
-    let bound = from_flag(s, sampling_bound);
+    let bound = from_flag(s, pair.bound);
     let margin = less_of(DEFAULT_LIMIT, worst);
     let summary = Summary {
         totals,
         sampling,
-        sampling_bound,
+        sampling_bound: pair.bound,
         worst,
         bound,
         margin,
@@ -414,4 +335,30 @@ pub fn figures(s: Sheet, table: &mut [u32]) -> TaskFigures
         answer: Figures::Of(summary),
         greatest,
     }
+}
+
+// A limit less the worst from a flag on: "the sign tells whether the limit is kept".
+pub fn margin(s: Sheet, limit: u32, table: &mut [u32]) -> Margin
+    ensures { λ r. ⌜ MarginPromise s limit (now (table .entry)) r (now (table .exit)) ⌝ }
+{
+    if MOST_LIMIT < limit {
+        let z = schedule::sizes(s);
+        let Sizes::Of(_) = z else {
+            return Margin::No(schedule::sizes_refusal(z));
+        };
+        return Margin::No(Refusal::Number(13));
+    }
+    let filled = figures(s, &mut *table);
+    let answer = filled.answer;
+    let Figures::Of(summary) = answer else {
+        return Margin::No(figures_refusal(answer));
+    };
+    Margin::Ticks(less_of(limit, summary.worst))
+}
+
+// "The call without a limit uses 1,000 ticks."
+pub fn default_margin(s: Sheet, table: &mut [u32]) -> Margin
+    ensures { λ r. ⌜ DefaultMarginPromise s (now (table .entry)) r (now (table .exit)) ⌝ }
+{
+    margin(s, DEFAULT_LIMIT, &mut *table)
 }

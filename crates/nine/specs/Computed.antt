@@ -27,7 +27,7 @@ use Rattle.sheet.specs.Tasks.{tasksOf, chainOf, firstOf, restOf, lateness}
 use Rattle.sheet.specs.TaskLaws.{sound-proper, chain-known}
 use Rattle.schedule.specs.Calls.{mostTicks, mostJobs, lateTask, lateGreatest, sizesOf, responsesOf, rows}
 use Rattle.schedule.specs.Lateness.{job-late, late-job}
-use Rattle.chain.specs.Calls.{figureOf, quickBound, samplingOf, boundOf}
+use Rattle.chain.specs.Calls.{figureOf, quickBound, summaryOf, figuresOf}
 use Rattle.nine.specs.Outcome.{Figures, outcomeOf}
 
 -- ---- by clearing times
@@ -95,11 +95,10 @@ module _ {ts : List Task} (good : Proper ts) where
 
 -- ---- and so are the outcomes
 
--- one answer asked for three times is the same answer
-once : {A B C D : Type 0} (a : Answer A) (b : B) (c : C) (f : B → C → D)
-    → after a (λ x. after (after a (λ y. given b)) (λ u. after (after a (λ y. given c)) (λ v. given (f u v)))) ≡ after a (λ x. given (f b c))
-once (given x) b c f = refl
-once (refused number values) b c f = refl
+-- a part of what is given is given
+part : {A B C : Type 0} (a : Answer A) (f : A → B) (g : B → C) → after (after a (λ x. given (f x))) (λ y. given (g y)) ≡ after a (λ x. given (g (f x)))
+part (given x) f g = refl
+part (refused number values) f g = refl
 
 also-after : {A B : Type 0} (j : Judgement) (a : Answer A) (f : A → Answer B) → after (also j a) f ≡ also j (after a f)
 also-after (given u) a f = refl
@@ -136,9 +135,9 @@ module _ (s : Sheet) where
       (also (when (ltb mostJobs (allJobs ts)) 11)
       (also (when (ltb mostJobs (allJobs ts)) 14)
       (also late (given figures)))))
-  unfolding outcomeOf samplingOf boundOf responsesOf sizesOf figures
+  unfolding outcomeOf figuresOf responsesOf sizesOf figures
   outcome-judged =
-      once (responsesOf s mostJobs) (figureOf ts (chainOf s)) (quickBound ts (chainOf s)) (λ f q. record { table = rows ts (length ts); sampling = f .ticks; release = f .release; bound = q })
+      part (responsesOf s mostJobs) (summaryOf ts (chainOf s)) (λ x. record { table = rows ts (length ts); sampling = x .sampling .ticks; release = x .sampling .release; bound = x .«sampling_bound» })
       ∙ also-into (judgeOf s) _ _ _
       ∙ ap (also (judgeOf s)) (also-into (when (ltb mostTicks (hyperperiod ts)) 10) _ _ _
       ∙ ap (also (when (ltb mostTicks (hyperperiod ts)) 10)) (also-into (when (ltb mostJobs (allJobs ts)) 11) _ _ _

@@ -5,8 +5,8 @@ use lib.ListN.{length}
 use Rattle.sheet.specs.declared.Sheet.{Sheet}
 use Rattle.answers.specs.Answers.{Answer, given, after}
 use Rattle.sheet.specs.Tasks.{tasksOf}
-use Rattle.schedule.specs.Calls.{mostJobs, responsesOf, rows}
-use Rattle.chain.specs.Calls.{samplingOf, boundOf}
+use Rattle.schedule.specs.Calls.{mostJobs, rows}
+use Rattle.chain.specs.Calls.{figuresOf}
 
 pub record Figures : Type 0 where
   pub table : List ℕ
@@ -14,10 +14,13 @@ pub record Figures : Type 0 where
   pub release : ℕ
   pub bound : ℕ
 
--- The answers of `responses`, `sampling` and `bound` with a table that is large enough for every sheet.
+-- The answer of `figures` with a table that is large enough for every sheet, and that table.
 unfoldable pub outcomeOf : Sheet → Answer Figures
 outcomeOf s =
-    after (responsesOf s mostJobs) λ totals.
-    after (samplingOf s mostJobs) λ figure.
-    after (boundOf s mostJobs) λ quick.
-    given (record { table = rows (tasksOf s) (length (tasksOf s)); sampling = figure .ticks; release = figure .release; bound = quick })
+    after (figuresOf s mostJobs) λ x.
+    given (record {
+      table = rows (tasksOf s) (length (tasksOf s));
+      sampling = x .sampling .ticks;
+      release = x .sampling .release;
+      bound = x .«sampling_bound»;
+    })

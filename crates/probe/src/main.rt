@@ -18,11 +18,9 @@ use answer::two;
 use answers::Refusal;
 use answers::Verdict;
 use arith::Multiple;
-use chain::Bound;
 use chain::Delay;
 use chain::Figures;
 use chain::Margin;
-use chain::Sampling;
 use chain::Summary;
 use chain::TaskFigures;
 use recurrence::Quick;
@@ -85,20 +83,6 @@ fn put_delay(out: &mut [u8], d: Delay) -> usize {
     match d {
         Delay::Ticks(t) => one(out, t),
         Delay::No(r) => refused(out, r),
-    }
-}
-
-fn put_sampling(out: &mut [u8], w: Sampling) -> usize {
-    match w {
-        Sampling::Is(f) => two(out, f.ticks, f.release),
-        Sampling::No(r) => refused(out, r),
-    }
-}
-
-fn put_bound(out: &mut [u8], b: Bound) -> usize {
-    match b {
-        Bound::Ticks(t) => one(out, t),
-        Bound::No(r) => refused(out, r),
     }
 }
 
@@ -211,12 +195,10 @@ fn of_sheet(
         12 => put_responses(out, schedule::responses(s, table)),
         13 => put_task_responses(out, schedule::task_responses(s, table)),
         14 => put_delay(out, chain::delay(s, number, table)),
-        15 => put_sampling(out, chain::sampling(s, table)),
-        16 => put_bound(out, chain::bound(s, table)),
-        17 => put_margin(out, chain::margin(s, number, table)),
-        18 => put_margin(out, chain::default_margin(s, table)),
-        19 => put_task_figures(out, chain::figures(s, table)),
-        20 => put_quick_bound(out, recurrence::bound(s)),
+        15 => put_margin(out, chain::margin(s, number, table)),
+        16 => put_margin(out, chain::default_margin(s, table)),
+        17 => put_task_figures(out, chain::figures(s, table)),
+        18 => put_quick_bound(out, recurrence::bound(s)),
         _ => accepted(out),
     }
 }

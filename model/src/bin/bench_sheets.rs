@@ -20,7 +20,7 @@ impl Sheets {
         let table = request(Call::Responses, &sheet, jobs);
         self.write(name, ".read", &of_no_call(&table));
         self.write(name, ".table", &table);
-        self.write(name, ".sampling", &request(Call::Sampling, &sheet, jobs));
+        self.write(name, ".figures", &request(Call::Figures, &sheet, jobs));
         self.write(name, "", &sheet);
         println!("{group} {name} {} {h} {jobs} {}", tasks.len(), chain.len());
     }

@@ -212,10 +212,8 @@ fn ask(probe: &mut Probe, call: Call, s: &Memory) -> Vec<u32> {
 
 /// What the probe says of a sheet's chain, unless it refuses the sheet.
 fn claim(probe: &mut Probe, s: &Memory) -> Option<Claim> {
-    match (&ask(probe, Call::Sampling, s)[..], &ask(probe, Call::Bound, s)[..], &ask(probe, Call::Figures, s)[..]) {
-        (&[_, 0, 0, sampling, release, ..], &[_, 0, 0, sampling_bound, ..], &[_, 0, 0, _, _, _, _, _, _, worst, bound, ..]) => {
-            Some(Claim { sampling, release, sampling_bound, worst, bound })
-        }
+    match ask(probe, Call::Figures, s)[..] {
+        [_, 0, 0, _, _, _, sampling, release, sampling_bound, worst, bound, ..] => Some(Claim { sampling, release, sampling_bound, worst, bound }),
         _ => None,
     }
 }

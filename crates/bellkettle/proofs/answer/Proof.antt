@@ -1,5 +1,5 @@
 -- Each question is put to the call of its name, and the answer told in numbers.
-use Rattle.bellkettle.specs.Numbers.{alone, signed, totalsNumbers, figureNumbers, summaryNumbers}
+use Rattle.bellkettle.specs.Numbers.{alone, signed, totalsNumbers, summaryNumbers}
 use Rattle.bellkettle.specs.ReplyLaws.{told-left}
 use borrow.Author.Needs.{needs}
 use Rattle.bellkettle.proofs.answer.Statement.{statement}
@@ -22,37 +22,23 @@ returns-2 c =
 returns-3 : tie.Need-returns-3
 returns-3 c =
     let below = c .before .before .before in
-    let asked = below .before .before in
+    let asked = below .before .before .before in
     let a = asked .before .before .before .args in
-    rw (asked .enum-told2 .given .1) (told-left figureNumbers (a .s) (a .table .now) (c .sampling-reply .ensures) (below .sampling .ensures .0) (below .sampling .ensures .1))
+    rw (asked .question2 .given .1) (told-left signed (a .s) (a .table .now) (c .margin-reply .ensures) (below .margin .ensures .0) (below .margin .ensures .1))
 
 returns-4 : tie.Need-returns-4
 returns-4 c =
     let below = c .before .before .before in
     let asked = below .before .before in
     let a = asked .before .before .before .args in
-    rw (asked .enum-told3 .given .1) (told-left alone (a .s) (a .table .now) (c .bound-reply .ensures) (below .bound .ensures .0) (below .bound .ensures .1))
+    rw (asked .enum-told2 .given .1) (told-left signed (a .s) (a .table .now) (c .margin-reply2 .ensures) (below .default-margin .ensures .0) (below .default-margin .ensures .1))
 
 returns-5 : tie.Need-returns-5
 returns-5 c =
     let below = c .before .before .before in
-    let asked = below .before .before .before in
-    let a = asked .before .before .before .args in
-    rw (asked .question2 .given .1) (told-left signed (a .s) (a .table .now) (c .margin-reply .ensures) (below .margin .ensures .0) (below .margin .ensures .1))
-
-returns-6 : tie.Need-returns-6
-returns-6 c =
-    let below = c .before .before .before in
     let asked = below .before .before in
     let a = asked .before .before .before .args in
-    rw (asked .enum-told4 .given .1) (told-left signed (a .s) (a .table .now) (c .margin-reply2 .ensures) (below .default-margin .ensures .0) (below .default-margin .ensures .1))
-
-returns-7 : tie.Need-returns-7
-returns-7 c =
-    let below = c .before .before .before in
-    let asked = below .before .before in
-    let a = asked .before .before .before .args in
-    rw (asked .enum-told5 .given .1) (told-left summaryNumbers (a .s) (a .table .now) (c .figures-reply .ensures) (below .figures .ensures .0 .0) (below .figures .ensures .0 .1))
+    rw (asked .enum-told3 .given .1) (told-left summaryNumbers (a .s) (a .table .now) (c .figures-reply .ensures) (below .figures .ensures .0 .0) (below .figures .ensures .0 .1))
 
 pub answer-spec : {M : Type 1} → statement M
 answer-spec =
@@ -60,7 +46,5 @@ answer-spec =
     (tie.spec (λ c. search needs) (λ c κs. search needs) (λ c κs. search needs) (λ c. search needs)
     (λ c κs. search needs) (λ c κs. search needs) (λ c. search needs) (λ c κs. search needs) (λ c κs. search needs)
     (λ c. search needs) (λ c κs. search needs) (λ c κs. search needs) (λ c. search needs) (λ c κs. search needs)
-    (λ c κs. search needs) (λ c. search needs) (λ c κs. search needs) (λ c κs. search needs) (λ c. search needs)
-    (λ c κs. search needs) (λ c κs. search needs) (λ c. search needs) returns (λ c. search needs) returns-2
-    (λ c. search needs) returns-3 (λ c. search needs) returns-4 (λ c. search needs) returns-5 (λ c. search needs)
-    returns-6 (λ c. search needs) returns-7)
+    (λ c κs. search needs) (λ c. search needs) returns (λ c. search needs) returns-2
+    (λ c. search needs) returns-3 (λ c. search needs) returns-4 (λ c. search needs) returns-5)

@@ -2,7 +2,7 @@
 use mathlib.Core.Path.{_≡_, refl, sym, ap, _∙_}
 use native.Mathlib.Omega.{arith}
 use mathlib.Core.List.{List}
-use Prim.Native.Nat.{ℕ, _≤_}
+use Prim.Native.Nat.{ℕ}
 use lib.IntN.{ℤ}
 use lib.ListN.{length}
 use mir.Syntax.{w32}
@@ -19,9 +19,9 @@ use Rattle.schedule.specs.CallLaws.{responses-no}
 use Rattle.schedule.specs.Taken.{Taken, Holds}
 use Rattle.chain.specs.declared.answer.Figure.{Figure}
 use Rattle.chain.specs.Calls.{figureOf, quickBound, fromFlag, less, defaultLimit, summaryOf, figuresOf}
-use Rattle.chain.specs.Conditions.{mostFigure, TakenChain}
+use Rattle.chain.specs.Conditions.{TakenChain}
 use Rattle.chain.specs.CallLaws.{answers-no, answers-given, filled-chain, filled-ready}
-use Rattle.chain.specs.Largest.{sampling-most, quick-most, flag-most}
+use Rattle.chain.specs.Largest.{sampling-most, quick-most, worst-most}
 use Rattle.chain.proofs.figures.Statement.{statement}
 use Rattle.chain.proofs.figures.Tie as tie
 
@@ -67,45 +67,40 @@ summary-is : (ts : List Task) (chain : List ℕ) (totals : Totals) {figure : Fig
     → summaryOf ts chain totals ≡ record { totals = totals; sampling = figure; «sampling_bound» = quick; worst = w; bound = b; margin = z }
 summary-is ts chain totals f q w b z = rw (z, b, w, q, f) refl
 
--- Where the sampling figure is known, and the answer before it.
-abbrev sampled : tie.After-bound-in → tie.After-sampling-in
-sampled c = c .before .before
+-- The answer, from where the figure and the bound are known.
+abbrev answered : tie.After-figure-and-bound → tie.After-answer
+answered c = c .before .before .before
 
-abbrev answered : tie.After-bound-in → tie.After-answer
-answered c = sampled c .before .before .before
-
-sampling-in-requires : tie.Need-sampling-in-requires
-sampling-in-requires c κs = ready (c .before .before)
-
-bound-in-requires : tie.Need-bound-in-requires
-bound-in-requires c κs = ready (c .before .before .before .before)
-
-small : (c : tie.After-bound-in) → sampled c .sampling-in .result .ticks ≤ mostFigure
-small c = omega (arith, ap (λ f. f .ticks) (sampled c .sampling-in .ensures), sampling-most (taken (answered c)))
+figure-and-bound-requires : tie.Need-figure-and-bound-requires
+figure-and-bound-requires c κs = ready (c .before .before)
 
 from-flag-requires : tie.Need-from-flag-requires
-from-flag-requires c κs = (ready (answered c) .0 .0, small c)
+from-flag-requires c κs =
+    let known = c .before in
+    (ready (answered known) .0 .0, omega (arith, ap (λ f. f .ticks) (known .figure-and-bound .ensures .0), sampling-most (taken (answered known))))
 
 from-flag-requires-2 : tie.Need-from-flag-requires-2
 from-flag-requires-2 c κs =
-    let bounded = c .before in (ready (answered bounded) .0 .0, omega (arith, bounded .bound-in .ensures, quick-most (taken (answered bounded))))
+    let known = c .before .before in
+    (ready (answered known) .0 .0, omega (arith, known .figure-and-bound .ensures .1, quick-most (taken (answered known))))
 
 less-of-requires : tie.Need-less-of-requires
 less-of-requires c κs =
-    let bounded = c .before .before in
-    (omega arith, omega (arith, c .before .from-flag .ensures, flag-most (taken (answered bounded)) (sampled bounded .sampling-in .result .ticks) (small bounded)))
+    let worst = c .before in
+    let known = worst .before .before in
+    (omega arith, omega (arith, worst .from-flag .ensures, ap (λ f. f .ticks) (known .figure-and-bound .ensures .0), worst-most (taken (answered known))))
 
 returns-2 : tie.Need-returns-2
 unfolding figuresOf
 returns-2 c =
     let bound = c .before in
     let worst = bound .before in
-    let bounded = worst .before in
-    let f = answered bounded in
+    let known = worst .before .before in
+    let f = answered known in
     let a = start f .args in
     let r = done f .task-responses in
     let read = toZ-ofZ w32 (c .less-of .result) (record { sfits = c .less-of .ok }) in
-    let same = summary-is (tasksOf (a .s)) (chainOf (a .s)) (f .answer .given .0 .0) (sampled bounded .sampling-in .ensures) (bounded .bound-in .ensures)
+    let same = summary-is (tasksOf (a .s)) (chainOf (a .s)) (f .answer .given .0 .0) (known .figure-and-bound .ensures .0) (known .figure-and-bound .ensures .1)
     (worst .from-flag .ensures) (bound .from-flag2 .ensures) (c .less-of .ensures) in
     let ended = answers-given (a .s) (a .table .now) _ (filled f) (ap given same) (r .ensures .0 .1) in
     rw read (ended, r .ensures .1)
@@ -114,4 +109,4 @@ pub figures-spec : {M : Type 1} → statement M
 figures-spec =
     tie.close
     (tie.spec (λ c κs. search needs) (λ c. search needs) (λ c. search needs) (λ c κs. search needs) (λ c. search needs)
-    returns sampling-in-requires bound-in-requires from-flag-requires from-flag-requires-2 less-of-requires (λ c. search needs) returns-2)
+    returns figure-and-bound-requires from-flag-requires from-flag-requires-2 less-of-requires (λ c. search needs) returns-2)

@@ -2,26 +2,31 @@
 //
 //     PROGRAM report|bound|bound-twin|table|figures|quick|quick-twin|read < SHEET
 //
-// `report` and `bound` print what the proved programs of these names print. `figures` prints the sampling figure, its release and its
-// bound. The others print one number: the idle ticks, the bound without a table, the task count. With `-twin` the tasks that outrank one
-// are gathered before they are gone over.
+// `report` and `bound` print what the proved programs of these names print, and `figures` the sampling figure of the first chain, its release
+// and its bound. The others print one number: the idle ticks, the first chain's bound without a table, the task count. With `-twin` the tasks
+// that outrank one are gathered before they are gone over.
 #include <stdbool.h>
 #include <stdint.h>
 #include <stdio.h>
 #include <stdlib.h>
 #include <string.h>
 
-enum { MOST_TASKS = 16, MOST_JOBS = 8192, MOST_TICKS = 1000000, MOST_PERIOD = 100000 };
+enum { MOST_TASKS = 16, MOST_CHAINS = 8, MOST_JOBS = 8192, MOST_TICKS = 1000000, MOST_PERIOD = 100000, MOST_LIMIT = 4000000 };
 
 struct task {
     uint32_t period, budget;
     uint8_t rank;
 };
 
+struct chain {
+    uint8_t entries[MOST_TASKS];
+    uint32_t length, limit;
+};
+
 struct sheet {
     struct task tasks[MOST_TASKS];
-    uint8_t chain[MOST_TASKS];
-    uint32_t count, length;
+    struct chain chains[MOST_CHAINS];
+    uint32_t count, suite;
 };
 
 struct plan {
@@ -74,24 +79,50 @@ static struct task read_task(struct reader *r, const struct sheet *s, uint32_t i
     return t;
 }
 
+static void read_entries(struct reader *r, const struct sheet *s, struct chain *c) {
+    c->length = field(r, 5);
+    if (c->length == 0 || s->count < c->length)
+        refuse_at(6, r->begin);
+    for (uint32_t i = 0; i < c->length; i++) {
+        c->entries[i] = field(r, 4);
+        if (s->count <= c->entries[i])
+            refuse_at(7, r->begin);
+        for (uint32_t j = 0; j < i; j++)
+            if (c->entries[j] == c->entries[i])
+                refuse_at(8, r->begin);
+    }
+}
+
+// The chains of edition 2, each with its limit; an old sheet has one, under 1,000.
+static void read_chains(struct reader *r, struct sheet *s, bool marked) {
+    s->suite = 1;
+    if (marked) {
+        s->suite = field(r, 4);
+        if (s->suite == 0 || MOST_CHAINS < s->suite)
+            refuse(17);
+    }
+    for (uint32_t c = 0; c < s->suite; c++) {
+        s->chains[c].limit = marked ? field(r, 22) : 1000;
+        if (MOST_LIMIT < s->chains[c].limit)
+            refuse(13);
+        read_entries(r, s, &s->chains[c]);
+    }
+}
+
 static void read_sheet(const uint8_t *bytes, uint32_t size, struct sheet *s) {
     struct reader r = {bytes, size * 8, 0, 0};
     s->count = field(&r, 5);
+    bool marked = s->count == 31;
+    if (marked) {
+        if (field(&r, 4) != 2)
+            refuse(16);
+        s->count = field(&r, 5);
+    }
     if (s->count == 0 || MOST_TASKS < s->count)
         refuse_at(2, r.begin);
     for (uint32_t i = 0; i < s->count; i++)
         s->tasks[i] = read_task(&r, s, i);
-    s->length = field(&r, 5);
-    if (s->length == 0 || s->count < s->length)
-        refuse_at(6, r.begin);
-    for (uint32_t i = 0; i < s->length; i++) {
-        s->chain[i] = field(&r, 4);
-        if (s->count <= s->chain[i])
-            refuse_at(7, r.begin);
-        for (uint32_t j = 0; j < i; j++)
-            if (s->chain[j] == s->chain[i])
-                refuse_at(8, r.begin);
-    }
+    read_chains(&r, s, marked);
     while (r.at % 8 != 0)
         if (field(&r, 1) != 0)
             refuse_at(9, r.begin);
@@ -137,10 +168,10 @@ static uint32_t response(const struct plan *plan, uint32_t i, uint32_t job) {
     return plan->rows[i][job < count ? job : job % count];
 }
 
-static uint32_t delay(const struct sheet *s, const struct plan *plan, uint32_t job) {
-    uint32_t p = s->chain[0], ticks = 0;
-    for (uint32_t i = 1; i < s->length; i++) {
-        uint32_t c = s->chain[i];
+static uint32_t delay(const struct sheet *s, const struct chain *chain, const struct plan *plan, uint32_t job) {
+    uint32_t p = chain->entries[0], ticks = 0;
+    for (uint32_t i = 1; i < chain->length; i++) {
+        uint32_t c = chain->entries[i];
         uint32_t release = job * s->tasks[p].period, ready = release;
         if (s->tasks[p].rank < s->tasks[c].rank)
             ready += response(plan, p, job);
@@ -156,11 +187,11 @@ struct figure {
     uint32_t ticks, release;
 };
 
-static struct figure sampling(const struct sheet *s, const struct plan *plan) {
-    uint32_t p = s->chain[0];
+static struct figure sampling(const struct sheet *s, const struct chain *chain, const struct plan *plan) {
+    uint32_t p = chain->entries[0];
     struct figure most = {0, 0};
     for (uint32_t job = 0; job < plan->counts[p]; job++) {
-        uint32_t ticks = delay(s, plan, job);
+        uint32_t ticks = delay(s, chain, plan, job);
         if (most.ticks < ticks) {
             most.ticks = ticks;
             most.release = job * s->tasks[p].period;
@@ -169,10 +200,10 @@ static struct figure sampling(const struct sheet *s, const struct plan *plan) {
     return most;
 }
 
-static uint32_t sampling_bound(const struct sheet *s, const uint32_t *greatest) {
-    uint32_t p = s->chain[0], ticks = 0;
-    for (uint32_t i = 1; i < s->length; i++) {
-        uint32_t c = s->chain[i];
+static uint32_t sampling_bound(const struct sheet *s, const struct chain *chain, const uint32_t *greatest) {
+    uint32_t p = chain->entries[0], ticks = 0;
+    for (uint32_t i = 1; i < chain->length; i++) {
+        uint32_t c = chain->entries[i];
         uint32_t g = common_divisor(s->tasks[p].period, s->tasks[c].period);
         ticks += s->tasks[c].period - g;
         if (s->tasks[p].rank < s->tasks[c].rank)
@@ -222,8 +253,13 @@ static uint32_t climb_gathered(const struct sheet *s, uint32_t i) {
     return value;
 }
 
-// The bound from a flag on, and the response of each task.
-static uint32_t quick_bound(const struct sheet *s, bool gathered, uint32_t *responses) {
+// How long a flag may wait for the release of the chain's first task.
+static uint32_t wait_of(const struct sheet *s, const struct chain *chain) {
+    return s->tasks[chain->entries[0]].period - 1;
+}
+
+// The response of each task.
+static void climb_all(const struct sheet *s, bool gathered, uint32_t *responses) {
     int late = -1;
     for (uint32_t i = 0; i < s->count; i++) {
         responses[i] = gathered ? climb_gathered(s, i) : climb(s, i);
@@ -234,18 +270,25 @@ static uint32_t quick_bound(const struct sheet *s, bool gathered, uint32_t *resp
         printf("refused 15 task %d\n", late);
         exit(0);
     }
-    return sampling_bound(s, responses) + (s->tasks[s->chain[0]].period - 1);
+}
+
+static void print_chain(const struct chain *chain) {
+    printf("chain");
+    for (uint32_t i = 0; i < chain->length; i++)
+        printf(" %u", chain->entries[i]);
+    printf("\n");
 }
 
 static void print_bound(const struct sheet *s, bool gathered) {
     uint32_t responses[MOST_TASKS];
-    uint32_t ticks = quick_bound(s, gathered, responses);
+    climb_all(s, gathered, responses);
     for (uint32_t i = 0; i < s->count; i++)
         printf("task %u response %u\n", i, responses[i]);
-    printf("chain");
-    for (uint32_t i = 0; i < s->length; i++)
-        printf(" %u", s->chain[i]);
-    printf("\nbound %u\n", ticks);
+    for (uint32_t c = 0; c < s->suite; c++) {
+        const struct chain *chain = &s->chains[c];
+        print_chain(chain);
+        printf("bound %u\n", sampling_bound(s, chain, responses) + wait_of(s, chain));
+    }
 }
 
 static void find_greatest(const struct sheet *s, const struct plan *plan, uint32_t *greatest) {
@@ -260,8 +303,8 @@ static void find_greatest(const struct sheet *s, const struct plan *plan, uint32
 static void print_figures(const struct sheet *s, const struct plan *plan) {
     uint32_t greatest[MOST_TASKS];
     find_greatest(s, plan, greatest);
-    struct figure figure = sampling(s, plan);
-    printf("%u %u %u\n", figure.ticks, figure.release, sampling_bound(s, greatest));
+    struct figure figure = sampling(s, &s->chains[0], plan);
+    printf("%u %u %u\n", figure.ticks, figure.release, sampling_bound(s, &s->chains[0], greatest));
 }
 
 static void print_report(const struct sheet *s, const struct plan *plan) {
@@ -270,13 +313,14 @@ static void print_report(const struct sheet *s, const struct plan *plan) {
     printf("tasks %u hyperperiod %u jobs %u idle %u\n", s->count, plan->hyperperiod, plan->jobs, plan->idle);
     for (uint32_t i = 0; i < s->count; i++)
         printf("task %u response %u\n", i, greatest[i]);
-    printf("chain");
-    for (uint32_t i = 0; i < s->length; i++)
-        printf(" %u", s->chain[i]);
-    struct figure figure = sampling(s, plan);
-    uint32_t wait = s->tasks[s->chain[0]].period - 1, worst = figure.ticks + wait;
-    printf("\nworst %u from %u\n", worst, figure.release);
-    printf("bound %u\nmargin %d\n", sampling_bound(s, greatest) + wait, 1000 - (int32_t)worst);
+    for (uint32_t c = 0; c < s->suite; c++) {
+        const struct chain *chain = &s->chains[c];
+        print_chain(chain);
+        struct figure figure = sampling(s, chain, plan);
+        uint32_t wait = wait_of(s, chain), worst = figure.ticks + wait;
+        printf("worst %u from %u\n", worst, figure.release);
+        printf("bound %u\nmargin %d\n", sampling_bound(s, chain, greatest) + wait, (int32_t)chain->limit - (int32_t)worst);
+    }
 }
 
 int main(int count, char **words) {
@@ -293,7 +337,8 @@ int main(int count, char **words) {
     bool gathered = strstr(what, "-twin") != NULL;
     if (strncmp(what, "quick", 5) == 0) {
         uint32_t responses[MOST_TASKS];
-        printf("%u\n", quick_bound(&s, gathered, responses));
+        climb_all(&s, gathered, responses);
+        printf("%u\n", sampling_bound(&s, &s.chains[0], responses) + wait_of(&s, &s.chains[0]));
         return 0;
     }
     if (strncmp(what, "bound", 5) == 0) {

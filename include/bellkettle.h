@@ -1,5 +1,5 @@
 /*
- * Bellkettle for programs in C: how long it takes along the chain until the stamp, from the change flag that asks for a reading or from
+ * Bellkettle for programs in C: how long it takes along a chain until the stamp, from the change flag that asks for a reading or from
  * the release of the job that samples it.
  *
  * Link libbellkettle.a (x86-64 Linux), which `rt staticlib bellkettle` writes. Every function below is proved to answer what the
@@ -16,6 +16,11 @@
  *  - from the tick at which a change flag is raised: the worst, its bound and every margin. A flag stays up until it is taken, by the first
  *    job of the first task that starts at or after that tick. That job is released at most T - 1 ticks after the flag, T being the period
  *    of the chain's first task: worst and bound are the sampling figure and the sampling bound with T - 1 added.
+ *
+ * Which chain
+ *
+ * A sheet of edition 2 has 1 to 8 chains, each with a limit; an old sheet, edition 1, has one chain and no limit. A call that is about a
+ * chain takes its number, counted from 1 in the order of the sheet.
  *
  * What a call is lent
  *
@@ -34,32 +39,38 @@
  *    3  a period T is 0 or over 100,000
  *    4  a budget C is 0 or over its T
  *    5  a rank equals an earlier task's
- *    6  the chain's length m is 0 or over n
+ *    6  a chain's length m is 0 or over n
  *    7  a chain entry is n or more
- *    8  a chain entry repeats an earlier one
+ *    8  a chain entry repeats an earlier one of its chain
  *    9  a bit after the last field is 1, or a byte follows the last needed
  *   10  the hyperperiod H is over 1,000,000
  *   11  the number of jobs J is over 8,192
- *   12  the release asked for is not a multiple of the first chain task's T, or is H or more
- *   13  the limit is over 4,000,000
+ *   12  the release asked for is not a multiple of the T of the chain's first task, or is H or more
+ *   13  the limit of a chain, or the limit that the call is given, is over 4,000,000
  *   14  the lent table has fewer than J entries, or the lent buffer fewer bytes than the sheet takes
  *   15  a task is late: with every budget used up, a job of it released before H is unfinished at its next release; to
  *       bellkettle_quick_bound, which knows no H, a job released at any time
+ *   16  the edition is not 2, in bytes that begin with a mark; to bellkettle_write, neither 1 nor 2
+ *   17  the number of chains is 0 or over 8; or the sheet has no chain of the number that is asked for
  *
- * Of several one is given: 1 to 9 are judged front to back, each field when it is read, and 10 to 15 after them in this order.
+ * Of several one is given: 1 to 9, 13, 16 and 17 of a field are judged front to back, each field when it is read. After them come 17 for the
+ * number of a chain, then 10, 11, 12, 13 for the limit that the call is given, 14 and 15 in this order.
  *
  * What a call leaves in lent memory
  *
  *  - values: the numbers that the call gives, from values[0] on. With 1 to 9 values[0] is the bit offset at which the judged field
- *    begins, with 15 the index of the greatest-ranked late task; with 10 to 14 nothing is written. A slice that is too short gets as
- *    many as it has places for; what is past them is not touched.
+ *    begins, with 15 the index of the greatest-ranked late task; with any other number nothing is written. A slice that is too short gets
+ *    as many as it has places for; what is past them is not touched.
  *  - table: with 0 the response of every job, task by task in sheet order, each task's jobs in release order: its row is H/T
- *    entries, straight after the rows before it. With 15 zeros in the first J entries. With 1 to 14 nothing is written. Entries from
+ *    entries, straight after the rows before it. With 15 zeros in the first J entries. With any other number nothing is written. Entries from
  *    J on are never touched. What it held before never matters; BELLKETTLE_TABLE entries are always enough.
  *
  * Bits are counted from 0 at the sheet's front, the most significant of each byte first. With 1 the judged field is the one in which
- * the bytes end; with 9 the offset is the earlier of the first wrong bit and the first bit of the surplus byte. The number of tasks
- * begins at bit 0, T of task i at 5 + 42 i, C at 22 + 42 i, the rank at 39 + 42 i, m at 5 + 42 n, entry j at 10 + 42 n + 4 j.
+ * the bytes end; with 9 the offset is the earlier of the first wrong bit and the first bit of the surplus byte. On an old sheet the
+ * number of tasks begins at bit 0, T of task i at 5 + 42 i, C at 22 + 42 i, the rank at 39 + 42 i, m at 5 + 42 n, entry j at
+ * 10 + 42 n + 4 j. In edition 2 the number of tasks begins at bit 9, T of task i at 14 + 42 i, C at 31 + 42 i, the rank at 48 + 42 i, the
+ * first chain at 18 + 42 n; of a chain that begins at p the limit begins at p, m at p + 22, entry j at p + 27 + 4 j, and the next chain at
+ * p + 27 + 4 m.
  */
 #ifndef BELLKETTLE_H
 #define BELLKETTLE_H
@@ -71,70 +82,84 @@
 extern "C" {
 #endif
 
-/* The entries of a table that is never too small, the most tasks, and the most bytes of a sheet. */
+/* The entries of a table that is never too small; the most tasks and so entries of a chain, the most chains, the most bytes of a sheet. */
 #define BELLKETTLE_TABLE 8192
 #define BELLKETTLE_TASKS 16
-#define BELLKETTLE_SHEET 94
+#define BELLKETTLE_CHAINS 8
+#define BELLKETTLE_SHEET 178
 
-/* values: H, J and the idle ticks before H. Refuses 1 to 9, 10, 11, 14, 15. */
+/* values: H, J and the idle ticks before H. Refuses 1 to 9, 13, 16, 17 of a field; 10, 11, 14, 15. */
 uint8_t bellkettle_responses(const uint8_t *sheet, size_t sheet_length,
                              uint32_t *table, size_t table_length,
                              int64_t *values, size_t values_length);
 
-/* values: the delay of the chain at a release of its first task, from that release. Refuses 1 to 9, 10, 11, 12, 14, 15. */
-uint8_t bellkettle_delay(const uint8_t *sheet, size_t sheet_length, uint32_t release,
+/* values: the delay of the chain at a release of its first task, from that release. Refuses 1 to 9, 13, 16, 17 of a field; 17, 10, 11, 12, 14, 15. */
+uint8_t bellkettle_delay(const uint8_t *sheet, size_t sheet_length, uint8_t chain, uint32_t release,
                          uint32_t *table, size_t table_length,
                          int64_t *values, size_t values_length);
 
-/* values: the limit less the worst; where it is not below zero every flag is stamped within the limit. Refuses 1 to 9, 10, 11, 13, 14, 15. */
-uint8_t bellkettle_margin(const uint8_t *sheet, size_t sheet_length, uint32_t limit,
+/*
+ * values: the limit that is given less the chain's worst; where it is not below zero every flag is stamped within the limit. Refuses 1 to 9,
+ * 13, 16, 17 of a field; 17, 10, 11, 13, 14, 15.
+ */
+uint8_t bellkettle_margin(const uint8_t *sheet, size_t sheet_length, uint8_t chain, uint32_t limit,
                           uint32_t *table, size_t table_length,
                           int64_t *values, size_t values_length);
 
-/* values: the margin under a limit of 1,000 ticks. Refuses 1 to 9, 10, 11, 14, 15. */
-uint8_t bellkettle_default_margin(const uint8_t *sheet, size_t sheet_length,
+/* values: the margin under a limit of 1,000 ticks, whatever the chain's own. Refuses 1 to 9, 13, 16, 17 of a field; 17, 10, 11, 14, 15. */
+uint8_t bellkettle_default_margin(const uint8_t *sheet, size_t sheet_length, uint8_t chain,
                                   uint32_t *table, size_t table_length,
                                   int64_t *values, size_t values_length);
 
 /*
  * The figures of the chain, from one filling of the table. values, nine: H, J, the idle ticks before H; the sampling figure, the smallest
- * release that gives it, the sampling bound; the worst, its bound, and the margin under a limit of 1,000 ticks. The response of a task
- * is the greatest of its row. Refuses 1 to 9, 10, 11, 14, 15.
+ * release that gives it, the sampling bound; the worst, its bound, and the margin that the report prints: under the chain's own limit, on an
+ * old sheet under 1,000 ticks. The response of a task is the greatest of its row. Refuses 1 to 9, 13, 16, 17 of a field; 17, 10, 11, 14, 15.
  */
-uint8_t bellkettle_figures(const uint8_t *sheet, size_t sheet_length,
+uint8_t bellkettle_figures(const uint8_t *sheet, size_t sheet_length, uint8_t chain,
                            uint32_t *table, size_t table_length,
                            int64_t *values, size_t values_length);
 
 /*
- * The bound with no table and no schedule, from periods, budgets and ranks alone, whatever H and J are. values: the sampling bound, and
- * the bound from a flag. Where bellkettle_figures answers these are its numbers; where it refuses with 15, so does this, with the same task.
- * Refuses 1 to 9, 15.
+ * The bound of the chain with no table and no schedule, from periods, budgets and ranks alone, whatever H and J are. values: the sampling
+ * bound, and the bound from a flag. Where bellkettle_figures answers these are its numbers; where it refuses with 15, so does this, with the
+ * same task. Refuses 1 to 9, 13, 16, 17 of a field; 17, 15.
  */
-uint8_t bellkettle_quick_bound(const uint8_t *sheet, size_t sheet_length,
+uint8_t bellkettle_quick_bound(const uint8_t *sheet, size_t sheet_length, uint8_t chain,
                                int64_t *values, size_t values_length);
 
 /*
- * The fields in a sheet's bytes. values: n and m. Refuses 1 to 9, and then writes the offset alone. Else task i's period, budget and
- * rank are in periods[i], budgets[i] and ranks[i], the chain's entries in chain[0] to chain[m - 1], and zeros from there on up to the
- * sixteenth place. A slice of fewer than sixteen places gets as many as it has; what is past the sixteenth is not touched.
+ * The fields in a sheet's bytes. values: the edition, n, and the number of chains as edition 2 says it; of an old sheet, which does not,
+ * it is 0, and its one chain is the first. Refuses 1 to 9, 13, 16, 17, and then leaves every slice as it was but for the offset. Else task
+ * i's period, budget and rank are in periods[i], budgets[i] and ranks[i], sixteen places with zeros from n on; the limit and the length of
+ * chain number c + 1 in limits[c] and lengths[c], eight places, and its entries in entries[16 c] to entries[16 c + 15], of 128 places in
+ * all, with zeros where there is no such chain or entry. An old sheet's limit is 0. A slice of fewer places gets as many as it has; what is
+ * past these places is not touched.
  */
 uint8_t bellkettle_read(const uint8_t *sheet, size_t sheet_length,
                         uint32_t *periods, size_t periods_length,
                         uint32_t *budgets, size_t budgets_length,
                         uint8_t *ranks, size_t ranks_length,
-                        uint8_t *chain, size_t chain_length,
+                        uint32_t *limits, size_t limits_length,
+                        uint8_t *lengths, size_t lengths_length,
+                        uint8_t *entries, size_t entries_length,
                         int64_t *values, size_t values_length);
 
 /*
- * The bytes of the sheet with these fields. n is periods_length, which budgets_length and ranks_length must equal: where they do
- * not, n counts as 0 and the refusal is 2. m is chain_length. values: how many bytes the sheet takes, at most BELLKETTLE_SHEET; they
- * stand at the front of out, and out is not touched past them. Refuses 2 to 8, with the offset that the field would have if written,
- * then 14, and then leaves out as it was.
+ * The bytes of the sheet with these fields, in edition 1 or 2. n is periods_length, which budgets_length and ranks_length must equal: where
+ * they do not, n counts as 0 and the refusal is 2. The number of chains is lengths_length, which limits_length must equal: where it does
+ * not, it counts as 0 and the refusal is 17. Entry j of chain number c + 1 is entries[16 c + j], and counts as 0 where there is no such
+ * place. Edition 1 takes the first chain, of length 0 where there is none, and ignores the others, the limits and how many there are. values:
+ * how many bytes the sheet takes, at most BELLKETTLE_SHEET; they stand at the front of out, and out is not touched past them. Refuses 2 to
+ * 8, 13, 16, 17, 2 to 8 with the offset that the field would have if written, then 14, and then leaves out as it was.
  */
-uint8_t bellkettle_write(const uint32_t *periods, size_t periods_length,
+uint8_t bellkettle_write(uint8_t edition,
+                         const uint32_t *periods, size_t periods_length,
                          const uint32_t *budgets, size_t budgets_length,
                          const uint8_t *ranks, size_t ranks_length,
-                         const uint8_t *chain, size_t chain_length,
+                         const uint32_t *limits, size_t limits_length,
+                         const uint8_t *lengths, size_t lengths_length,
+                         const uint8_t *entries, size_t entries_length,
                          uint8_t *out, size_t out_length,
                          int64_t *values, size_t values_length);
 

@@ -45,7 +45,7 @@ leaves_nothing() { [ -z "$(ls -A "$TMPDIR")" ] || wrong "left behind: $(ls -A "$
 
 # What is explained
 
-for program in report bound; do ./bellkettle $program samples/radio.sheet >/dev/null 2>&1; done # they stand there from here on
+for program in report bound 'convert --to 2'; do ./bellkettle $program samples/radio.sheet >/dev/null 2>&1; done # they stand there from here on
 try 'no command' ./bellkettle
 ends 0 && says_nothing && cp "$room/out" "$room/all"
 for command in tools/commands/*; do
@@ -83,6 +83,22 @@ for command in report bound; do
     try "$command: two sheets" ./bellkettle $command samples/radio.sheet samples/trio.sheet
     refuses_use "$command takes one sheet, and 2 were given"
 done
+try 'an edition for a command that takes none' ./bellkettle report --to 2 samples/radio.sheet
+refuses_use "report has no option '--to'"
+for words in '' samples/radio.sheet 'samples/radio.sheet --to 2'; do
+    try "convert $words" ./bellkettle convert $words
+    refuses_use 'convert has to be told an edition'
+done
+for words in '--to' '--to 0' '--to 3 samples/radio.sheet' '--to samples/radio.sheet'; do
+    try "convert $words" ./bellkettle convert $words
+    refuses_use "there is no edition '"
+done
+try 'an option that convert does not have' ./bellkettle convert --from 1 samples/radio.sheet
+refuses_use "convert has no option '--from'"
+try 'an option that convert does not have, after the edition' ./bellkettle convert --to 2 --verbose
+refuses_use "convert has no option '--verbose'"
+try 'convert: two sheets' ./bellkettle convert --to 2 samples/radio.sheet samples/trio.sheet
+refuses_use 'convert takes one sheet, and 2 were given'
 try 'version of something' ./bellkettle --version report
 refuses_use '--version takes nothing more'
 
@@ -94,6 +110,14 @@ for command in report bound; do
     try "$command: a sheet on standard input" sh -c "./bellkettle $command <samples/radio.sheet"
     ends 0 && says_nothing && prints samples/radio.$command
 done
+try 'convert: a sheet' ./bellkettle convert --to 2 samples/radio.sheet
+ends 0 && says_nothing && prints samples/radio-edition-2.sheet
+try 'convert: a sheet on standard input' sh -c './bellkettle convert --to 1 <samples/radio-edition-2.sheet'
+ends 0 && says_nothing && prints samples/radio.sheet
+try 'convert: a sheet named as an option' sh -c 'cp samples/radio.sheet "$1/--to" && cd "$1" && "$2/bellkettle" convert --to 2 -- --to' sh "$room" "$here"
+ends 0 && says_nothing && prints samples/radio-edition-2.sheet
+try 'convert: to a terminal' script -qec './bellkettle convert --to 2 samples/radio.sheet' /dev/null
+ends 2 && grep -q '^bellkettle: a sheet is bytes that a terminal does not show; ' "$room/out" || wrong 'to be told that a file is needed'
 
 sed -n '/^## Refusals/,/^## [^R]/p' README.md | grep '^| [0-9]' >"$room/table"
 cmp "$room/table" tools/refusals.txt || { echo 'tests/bellkettle.sh: the refusals of README.md and tools/refusals.txt are not the same' && exit 1; }
@@ -109,9 +133,24 @@ refused_in_words() { # COMMAND SHEET NUMBER BECAUSE REMEDY
     [ "$(cat "$room/err")" = "bellkettle: $2: $place$sentence" ] || wrong 'the place and the sentence of the table expected'
 }
 
+not_converted() { # EDITION SHEET BECAUSE REMEDY: the line that report prints, then the words, all on standard error
+    try "convert --to $1 $2" ./bellkettle convert --to "$1" "$2"
+    ends 1 && prints_nothing
+    [ "$(wc -l <"$room/err")" -eq 2 ] || wrong 'two lines expected'
+    case $(sed -n 2p "$room/err") in
+    "bellkettle: $2: "*"$3; $4") ;;
+    *) wrong 'the sentence of the table expected' ;;
+    esac
+}
+
 while IFS='|' read -r _ number because remedy _; do
     number=${number# } because=${because# } remedy=${remedy# }
     number=${number% } because=${because% } remedy=${remedy% }
+    if [ "$number" = 18 ]; then
+        for sheet in suite radio-own-limit; do not_converted 1 samples/$sheet.sheet "$because" "$remedy"; done
+        [ "$(head -n 1 "$room/err")" = 'refused 18' ] || wrong 'the refusal expected'
+        continue
+    fi
     for sheet in samples/refused-"$number"-*.sheet; do
         refused_in_words report "$sheet" "$number" "$because" "$remedy"
         case $number in
@@ -121,6 +160,13 @@ while IFS='|' read -r _ number because remedy _; do
             ends 0 && says_nothing && prints "${sheet%.sheet}.bound"
             ;;
         *) refused_in_words bound "$sheet" "$number" "$because" "$remedy" ;;
+        esac
+        case $number in
+        10 | 11 | 15) ;;
+        *)
+            not_converted 2 "$sheet" "$because" "$remedy"
+            [ "$(head -n 1 "$room/err")" = "$(cat "${sheet%.sheet}.report")" ] || wrong "report's refusal expected"
+            ;;
         esac
     done
 done <tools/refusals.txt
@@ -137,9 +183,12 @@ done
 try 'a late task beyond any hyperperiod' ./bellkettle bound samples/odd-late.sheet
 ends 1 && prints samples/odd-late.bound && says '^bellkettle: samples/odd-late.sheet: task 2 is late: '
 
-# README's report and its bound, line by line, and what is said of the sheet that has no report.
+# README's reports and its bound, line by line, the bytes of an edition 2 sheet, and what is said of the sheets that have no report and no old form.
+try 'the sheet that README does not convert' ./bellkettle convert --to 1 samples/suite.sheet
+cp "$room/err" "$room/unconverted"
+{ od -An -v -tx1 samples/lone-edition-2.sheet | tr -d '\n' | tr a-f A-F | sed 's/^ //' && echo; } >"$room/bytes"
 try 'the sheet whose bound README prints' ./bellkettle report samples/odd.sheet
-cat samples/radio.report samples/odd.bound "$room/out" "$room/err" | while read -r line; do
+cat samples/radio.report samples/suite.report samples/odd.bound "$room/out" "$room/err" "$room/unconverted" "$room/bytes" | while read -r line; do
     grep -qxF "    $line" README.md || wrong "README.md expected to print: $line"
 done
 
@@ -166,8 +215,12 @@ for command in report bound; do
     try "$command: an input that is only written" sh -c "./bellkettle $command 0>/dev/null"
     fails 'standard input: it cannot be read ('
 done
+try 'convert: no such file' ./bellkettle convert --to 2 samples/nothing.sheet
+fails 'samples/nothing.sheet: there is no such file; '
+try 'convert: a closed input' sh -c './bellkettle convert --to 2 <&-'
+fails 'standard input: it is closed; give a file there, or its name: bellkettle convert --to 2 FILE'
 for words in 'report samples/radio.sheet' 'report samples/refused-2-count.sheet' 'bound samples/odd.sheet' 'bound samples/refused-2-count.sheet' \
-    --help 'help report' 'help bound' --version; do
+    'convert --to 2 samples/radio.sheet' --help 'help report' 'help bound' 'help convert' --version; do
     try "$words, to a full disk" sh -c "./bellkettle $words >/dev/full"
     fails 'standard output: not all could be written there; '
     try "$words, to a closed output" sh -c "./bellkettle $words >&-"

@@ -16,7 +16,7 @@
 /* The most values that a call gives. */
 #define VALUES 9
 
-/* Where the fields of a sheet with n tasks begin, and that a refusal comes with no bit. */
+/* Where the fields of an old sheet with n tasks begin, and that a refusal comes with no bit. */
 #define COUNT_BIT 0
 #define PERIOD_BIT(i) (5 + 42 * (int)(i))
 #define BUDGET_BIT(i) (22 + 42 * (int)(i))
@@ -24,6 +24,13 @@
 #define LENGTH_BIT(n) (5 + 42 * (int)(n))
 #define ENTRY_BIT(n, j) (10 + 42 * (int)(n) + 4 * (int)(j))
 #define NO_BIT (-1)
+
+/* The same in edition 2, of a chain that begins at bit p; the first chain's, and the next one's after a chain of m. */
+#define MARKED(bit) (9 + (bit))
+#define FIRST_CHAIN(n) (18 + 42 * (int)(n))
+#define CHAIN_LENGTH_BIT(p) ((p) + 22)
+#define CHAIN_ENTRY_BIT(p, j) ((p) + 27 + 4 * (int)(j))
+#define NEXT_CHAIN(p, m) ((p) + 27 + 4 * (int)(m))
 
 static unsigned checks;
 
@@ -35,15 +42,26 @@ static void expect(const char *sheet, const char *what, int64_t got, int64_t wan
     }
 }
 
-/* The fields of a sheet as they would be written, allowed or not. */
+struct chain {
+    uint8_t m, entries[BELLKETTLE_TASKS];
+    uint32_t limit;
+};
+
+/* The fields of a sheet as they would be written, allowed or not. An old one is not of the second edition and has one chain. */
 struct fields {
     const char *name;
     uint32_t n;
     uint32_t periods[BELLKETTLE_TASKS], budgets[BELLKETTLE_TASKS];
     uint8_t ranks[BELLKETTLE_TASKS];
-    uint32_t m;
-    uint8_t chain[BELLKETTLE_TASKS];
+    struct chain chains[BELLKETTLE_CHAINS];
+    int second;
+    uint32_t count;
 };
+
+/* How many chains have a place. */
+static uint32_t chains_on(const struct fields *f) {
+    return !f->second ? 1 : f->count < BELLKETTLE_CHAINS ? f->count : BELLKETTLE_CHAINS;
+}
 
 struct bytes {
     uint8_t at[BELLKETTLE_SHEET + 2];
@@ -57,17 +75,33 @@ static void pack_number(struct bytes *out, unsigned width, uint32_t number) {
     }
 }
 
+static void pack_chain(struct bytes *out, const struct chain *c) {
+    pack_number(out, 5, c->m);
+    for (uint32_t i = 0; i < c->m && i < BELLKETTLE_TASKS; i++) {
+        pack_number(out, 4, c->entries[i]);
+    }
+}
+
 static struct bytes pack(const struct fields *f) {
     struct bytes out = {{0}, 0};
+    if (f->second) {
+        pack_number(&out, 5, 31);
+        pack_number(&out, 4, 2);
+    }
     pack_number(&out, 5, f->n);
     for (uint32_t i = 0; i < f->n && i < BELLKETTLE_TASKS; i++) {
         pack_number(&out, 17, f->periods[i]);
         pack_number(&out, 17, f->budgets[i]);
         pack_number(&out, 8, f->ranks[i]);
     }
-    pack_number(&out, 5, f->m);
-    for (uint32_t i = 0; i < f->m && i < BELLKETTLE_TASKS; i++) {
-        pack_number(&out, 4, f->chain[i]);
+    if (f->second) {
+        pack_number(&out, 4, f->count);
+    }
+    for (uint32_t c = 0; c < chains_on(f); c++) {
+        if (f->second) {
+            pack_number(&out, 22, f->chains[c].limit);
+        }
+        pack_chain(&out, &f->chains[c]);
     }
     return out;
 }
@@ -103,22 +137,22 @@ static void expect_marked(const char *sheet, size_t value, size_t entry) {
 /* The five calls that fill a table and the one that is lent none, in one form. */
 enum call { RESPONSES, DELAY, MARGIN, DEFAULT_MARGIN, FIGURES, QUICK_BOUND };
 
-static uint8_t ask(enum call call, const uint8_t *sheet, size_t length, uint32_t number, size_t room, size_t places) {
+static uint8_t ask(enum call call, const uint8_t *sheet, size_t length, uint8_t chain, uint32_t number, size_t room, size_t places) {
     switch (call) {
     case RESPONSES: return bellkettle_responses(sheet, length, table, room, values, places);
-    case DELAY: return bellkettle_delay(sheet, length, number, table, room, values, places);
-    case MARGIN: return bellkettle_margin(sheet, length, number, table, room, values, places);
-    case DEFAULT_MARGIN: return bellkettle_default_margin(sheet, length, table, room, values, places);
-    case FIGURES: return bellkettle_figures(sheet, length, table, room, values, places);
-    default: return bellkettle_quick_bound(sheet, length, values, places);
+    case DELAY: return bellkettle_delay(sheet, length, chain, number, table, room, values, places);
+    case MARGIN: return bellkettle_margin(sheet, length, chain, number, table, room, values, places);
+    case DEFAULT_MARGIN: return bellkettle_default_margin(sheet, length, chain, table, room, values, places);
+    case FIGURES: return bellkettle_figures(sheet, length, chain, table, room, values, places);
+    default: return bellkettle_quick_bound(sheet, length, chain, values, places);
     }
 }
 
 /* A call that is taken: its values, and the rows, in a table of exactly so many entries. */
-static void expect_given(const struct fields *f, enum call call, uint32_t number, size_t jobs, const uint32_t *rows, size_t count, const int64_t *wanted) {
+static void expect_of_chain(const struct fields *f, enum call call, uint8_t chain, uint32_t number, size_t jobs, const uint32_t *rows, size_t count, const int64_t *wanted) {
     struct bytes sheet = pack(f);
     mark();
-    expect(f->name, "the number returned", ask(call, sheet.at, size_of(&sheet), number, jobs, count), 0);
+    expect(f->name, "the number returned", ask(call, sheet.at, size_of(&sheet), chain, number, jobs, count), 0);
     for (size_t i = 0; i < count; i++) {
         expect(f->name, "a value", values[i], wanted[i]);
     }
@@ -126,6 +160,11 @@ static void expect_given(const struct fields *f, enum call call, uint32_t number
         expect(f->name, "a response", table[i], rows[i]);
     }
     expect_marked(f->name, count, jobs);
+}
+
+/* Of the first chain. */
+static void expect_given(const struct fields *f, enum call call, uint32_t number, size_t jobs, const uint32_t *rows, size_t count, const int64_t *wanted) {
+    expect_of_chain(f, call, 1, number, jobs, rows, count, wanted);
 }
 
 /* With a refusal the bit is the only value, and the table is as it was. */
@@ -136,53 +175,81 @@ static void expect_bit(const char *name, int bit) {
     expect_marked(name, bit != NO_BIT ? 1 : 0, 0);
 }
 
-/* A refusal of 1 to 14 by any of the six. */
+/* A refusal other than 15 by any of the six. */
 static void expect_refused(const char *name, enum call call, const uint8_t *sheet, size_t length, uint32_t number, size_t room, uint8_t refusal, int bit) {
     mark();
-    expect(name, "the refusal", ask(call, sheet, length, number, room, VALUES), refusal);
+    expect(name, "the refusal", ask(call, sheet, length, 1, number, room, VALUES), refusal);
     expect_bit(name, bit);
 }
 
-/* By all that can give it: 10 to 14 come of a table. */
+/* By all that can give it: 10, 11 and 14 come of a table. */
 static void expect_all_refuse(const char *name, const uint8_t *sheet, size_t length, size_t room, uint8_t refusal, int bit) {
-    for (enum call call = RESPONSES; call <= (refusal < 10 ? QUICK_BOUND : FIGURES); call++) {
+    int of_a_table = refusal == 10 || refusal == 11 || refusal == 14;
+    for (enum call call = RESPONSES; call <= (of_a_table ? FIGURES : QUICK_BOUND); call++) {
         expect_refused(name, call, sheet, length, 0, room, refusal, bit);
     }
 }
 
-/* The fields in a sheet's bytes, in exactly sixteen places each; or none of them. */
+/* The fields in a sheet's bytes, in exactly as many places as there are; or none of them. */
 static void expect_read(const char *name, const uint8_t *sheet, size_t length, uint8_t refusal, int bit, const struct fields *f) {
-    uint32_t periods[17], budgets[17];
-    uint8_t ranks[17], chain[17];
+    uint32_t periods[17], budgets[17], limits[9];
+    uint8_t ranks[17], lengths[9], entries[129];
     for (size_t i = 0; i < 17; i++) {
         periods[i] = budgets[i] = MARK;
-        ranks[i] = chain[i] = MARK_BYTE;
+        ranks[i] = MARK_BYTE;
     }
+    for (size_t c = 0; c < 9; c++) {
+        limits[c] = MARK;
+    }
+    memset(lengths, MARK_BYTE, sizeof lengths);
+    memset(entries, MARK_BYTE, sizeof entries);
     mark();
-    expect(name, "reading", bellkettle_read(sheet, length, periods, 16, budgets, 16, ranks, 16, chain, 16, values, 2), refusal);
+    expect(name, "reading", bellkettle_read(sheet, length, periods, 16, budgets, 16, ranks, 16, limits, 8, lengths, 8, entries, 128, values, 3), refusal);
     for (size_t i = 0; i < 17; i++) {
         int given = refusal == 0 && i < 16;
         expect(name, "a period read", periods[i], !given ? MARK : i < f->n ? f->periods[i] : 0);
         expect(name, "a budget read", budgets[i], !given ? MARK : i < f->n ? f->budgets[i] : 0);
         expect(name, "a rank read", ranks[i], !given ? MARK_BYTE : i < f->n ? f->ranks[i] : 0);
-        expect(name, "an entry read", chain[i], !given ? MARK_BYTE : i < f->m ? f->chain[i] : 0);
+    }
+    for (size_t c = 0; c < 9; c++) {
+        int given = refusal == 0 && c < 8;
+        struct chain wanted = {0};
+        if (given && c < chains_on(f)) {
+            wanted = f->chains[c];
+        }
+        expect(name, "a limit read", limits[c], given ? wanted.limit : MARK);
+        expect(name, "a length read", lengths[c], given ? wanted.m : MARK_BYTE);
+        for (size_t i = 0; i < (c < 8 ? 16 : 1); i++) {
+            expect(name, "an entry read", entries[16 * c + i], given ? i < wanted.m ? wanted.entries[i] : 0 : MARK_BYTE);
+        }
     }
     if (refusal == 0) {
-        expect(name, "n read", values[0], f->n);
-        expect(name, "m read", values[1], f->m);
-        expect_marked(name, 2, 0);
+        expect(name, "the edition read", values[0], f->second ? 2 : 1);
+        expect(name, "n read", values[1], f->n);
+        expect(name, "the number of chains read", values[2], f->second ? f->count : 0);
+        expect_marked(name, 3, 0);
     } else {
         expect_bit(name, bit);
     }
 }
 
-/* The bytes of fields, in a buffer of so many. */
-static void expect_written(const struct fields *f, size_t room, uint8_t refusal, int bit) {
+/* The bytes of fields in an edition, in a buffer of so many. Edition 1 takes the first chain, whatever else there is. */
+static void expect_written_as(uint8_t edition, const struct fields *f, size_t room, uint8_t refusal, int bit) {
     struct bytes wanted = pack(f);
-    uint8_t out[BELLKETTLE_SHEET + 2];
+    uint8_t out[BELLKETTLE_SHEET + 2], lengths[BELLKETTLE_CHAINS + 1] = {0}, entries[128];
+    uint32_t limits[BELLKETTLE_CHAINS + 1] = {0};
+    size_t count = f->second ? f->count : 1;
+    for (size_t c = 0; c < BELLKETTLE_CHAINS; c++) {
+        limits[c] = f->chains[c].limit;
+        lengths[c] = f->chains[c].m;
+        memcpy(entries + 16 * c, f->chains[c].entries, 16);
+    }
     memset(out, MARK_BYTE, sizeof out);
     mark();
-    expect(f->name, "writing", bellkettle_write(f->periods, f->n, f->budgets, f->n, f->ranks, f->n, f->chain, f->m, out, room, values, 1), refusal);
+    expect(f->name, "writing",
+           bellkettle_write(edition, f->periods, f->n, f->budgets, f->n, f->ranks, f->n, limits, f->second ? count : 0, lengths, count,
+                            entries, sizeof entries, out, room, values, 1),
+           refusal);
     size_t size = refusal == 0 ? size_of(&wanted) : 0;
     for (size_t i = 0; i < sizeof out; i++) {
         expect(f->name, "a byte written", out[i], i < size ? wanted.at[i] : MARK_BYTE);
@@ -195,6 +262,10 @@ static void expect_written(const struct fields *f, size_t room, uint8_t refusal,
     }
 }
 
+static void expect_written(const struct fields *f, size_t room, uint8_t refusal, int bit) {
+    expect_written_as(f->second ? 2 : 1, f, room, refusal, bit);
+}
+
 /* A sheet with a bad field, in bytes and in memory. */
 static void expect_bad_field(const struct fields *f, uint8_t refusal, int bit) {
     struct bytes sheet = pack(f);
@@ -203,17 +274,31 @@ static void expect_bad_field(const struct fields *f, uint8_t refusal, int bit) {
     expect_written(f, BELLKETTLE_SHEET, refusal, bit);
 }
 
+/* Goes over one field: whether so many bits end inside it. */
+static int cut_in(size_t *begin, size_t width, size_t bits) {
+    if (bits < *begin + width) {
+        return 1;
+    }
+    *begin += width;
+    return 0;
+}
+
 /* Where the field begins in which so many bits end. */
 static int field_cut(const struct fields *f, size_t bits) {
     size_t begin = 0;
-    for (uint32_t field = 0;; field++) {
-        int of_task = 0 < field && field <= 3 * f->n;
-        size_t width = of_task ? (field % 3 == 0 ? 8 : 17) : field == 0 || field == 3 * f->n + 1 ? 5 : 4;
-        if (bits < begin + width) {
-            return (int)begin;
-        }
-        begin += width;
+    int cut = f->second && (cut_in(&begin, 5, bits) || cut_in(&begin, 4, bits));
+    cut = cut || cut_in(&begin, 5, bits);
+    for (uint32_t i = 0; i < f->n; i++) {
+        cut = cut || cut_in(&begin, 17, bits) || cut_in(&begin, 17, bits) || cut_in(&begin, 8, bits);
     }
+    cut = cut || (f->second && cut_in(&begin, 4, bits));
+    for (uint32_t c = 0; c < chains_on(f); c++) {
+        cut = cut || (f->second && cut_in(&begin, 22, bits)) || cut_in(&begin, 5, bits);
+        for (uint32_t j = 0; j < f->chains[c].m; j++) {
+            cut = cut || cut_in(&begin, 4, bits);
+        }
+    }
+    return (int)begin;
 }
 
 /* A sheet that is taken, read and written; with its table too small by one entry, every call refuses it. */
@@ -240,7 +325,7 @@ static void expect_quick_late(const struct fields *f, int64_t task) {
     struct bytes sheet = pack(f);
     for (size_t places = 0; places < 3; places++) {
         mark();
-        expect(f->name, "the refusal", ask(QUICK_BOUND, sheet.at, size_of(&sheet), 0, 0, places), 15);
+        expect(f->name, "the refusal", ask(QUICK_BOUND, sheet.at, size_of(&sheet), 1, 0, 0, places), 15);
         if (places > 0) {
             expect(f->name, "the task", values[0], task);
         }
@@ -248,24 +333,24 @@ static void expect_quick_late(const struct fields *f, int64_t task) {
     }
 }
 
-static const struct fields trio = {"Trio", 3, {8, 2, 4}, {1, 1, 1}, {1, 3, 2}, 3, {0, 1, 2}};
-static const struct fields radio = {"Radio", 3, {20, 6, 12}, {5, 1, 3}, {1, 3, 2}, 3, {0, 1, 2}};
-static const struct fields radio_short = {"Radio, chain 0 1", 3, {20, 6, 12}, {5, 1, 3}, {1, 3, 2}, 2, {0, 1}};
-static const struct fields quartet = {"Quartet", 4, {6, 6, 3, 6}, {1, 1, 1, 1}, {4, 3, 2, 1}, 2, {2, 3}};
-static const struct fields lone = {"Lone", 1, {5}, {5}, {1}, 1, {0}};
-static const struct fields every_tick = {"a first task of period 1", 1, {1}, {1}, {1}, 1, {0}};
-static const struct fields longest_period = {"a first task of period 100,000", 1, {100000}, {1}, {1}, 1, {0}};
-static const struct fields slow = {"a margin below zero", 1, {5000}, {2000}, {1}, 1, {0}};
-static const struct fields budget_over = {"a budget over its period", 1, {5}, {6}, {1}, 1, {0}};
-static const struct fields late = {"a late task", 2, {2, 3}, {1, 2}, {2, 1}, 1, {0}};
-static const struct fields longest = {"periods 1,000 and 999", 2, {1000, 999}, {1, 1}, {2, 1}, 1, {0}};
-static const struct fields too_long = {"periods 1,000 and 1,001", 2, {1000, 1001}, {1, 1}, {2, 1}, 1, {0}};
-static const struct fields most_jobs = {"periods 2 and 16,382", 2, {2, 16382}, {1, 1}, {2, 1}, 1, {0}};
-static const struct fields odd = {"periods 997, 1,009 and 1,013", 3, {997, 1009, 1013}, {100, 200, 300}, {3, 2, 1}, 3, {2, 1, 0}};
-static const struct fields just_fits = {"a task that just fits", 3, {997, 1009, 1013}, {12, 3, 983}, {3, 2, 1}, 1, {2}};
-static const struct fields just_late = {"a task that just does not", 3, {997, 1009, 1013}, {12, 3, 984}, {3, 2, 1}, 1, {2}};
-static const struct fields two_late = {"two late tasks", 3, {10, 3, 2}, {6, 1, 2}, {1, 2, 3}, 1, {0}};
-static const struct fields too_many = {"periods 2 and 16,384", 2, {2, 16384}, {1, 1}, {2, 1}, 1, {0}};
+static const struct fields trio = {"Trio", 3, {8, 2, 4}, {1, 1, 1}, {1, 3, 2}, {{3, {0, 1, 2}, 0}}, 0, 0};
+static const struct fields radio = {"Radio", 3, {20, 6, 12}, {5, 1, 3}, {1, 3, 2}, {{3, {0, 1, 2}, 0}}, 0, 0};
+static const struct fields radio_short = {"Radio, chain 0 1", 3, {20, 6, 12}, {5, 1, 3}, {1, 3, 2}, {{2, {0, 1}, 0}}, 0, 0};
+static const struct fields quartet = {"Quartet", 4, {6, 6, 3, 6}, {1, 1, 1, 1}, {4, 3, 2, 1}, {{2, {2, 3}, 0}}, 0, 0};
+static const struct fields lone = {"Lone", 1, {5}, {5}, {1}, {{1, {0}, 0}}, 0, 0};
+static const struct fields every_tick = {"a first task of period 1", 1, {1}, {1}, {1}, {{1, {0}, 0}}, 0, 0};
+static const struct fields longest_period = {"a first task of period 100,000", 1, {100000}, {1}, {1}, {{1, {0}, 0}}, 0, 0};
+static const struct fields slow = {"a margin below zero", 1, {5000}, {2000}, {1}, {{1, {0}, 0}}, 0, 0};
+static const struct fields budget_over = {"a budget over its period", 1, {5}, {6}, {1}, {{1, {0}, 0}}, 0, 0};
+static const struct fields late = {"a late task", 2, {2, 3}, {1, 2}, {2, 1}, {{1, {0}, 0}}, 0, 0};
+static const struct fields longest = {"periods 1,000 and 999", 2, {1000, 999}, {1, 1}, {2, 1}, {{1, {0}, 0}}, 0, 0};
+static const struct fields too_long = {"periods 1,000 and 1,001", 2, {1000, 1001}, {1, 1}, {2, 1}, {{1, {0}, 0}}, 0, 0};
+static const struct fields most_jobs = {"periods 2 and 16,382", 2, {2, 16382}, {1, 1}, {2, 1}, {{1, {0}, 0}}, 0, 0};
+static const struct fields odd = {"periods 997, 1,009 and 1,013", 3, {997, 1009, 1013}, {100, 200, 300}, {3, 2, 1}, {{3, {2, 1, 0}, 0}}, 0, 0};
+static const struct fields just_fits = {"a task that just fits", 3, {997, 1009, 1013}, {12, 3, 983}, {3, 2, 1}, {{1, {2}, 0}}, 0, 0};
+static const struct fields just_late = {"a task that just does not", 3, {997, 1009, 1013}, {12, 3, 984}, {3, 2, 1}, {{1, {2}, 0}}, 0, 0};
+static const struct fields two_late = {"two late tasks", 3, {10, 3, 2}, {6, 1, 2}, {1, 2, 3}, {{1, {0}, 0}}, 0, 0};
+static const struct fields too_many = {"periods 2 and 16,384", 2, {2, 16384}, {1, 1}, {2, 1}, {{1, {0}, 0}}, 0, 0};
 
 static void document_one(void) {
     const uint32_t rows[] = {4, 1, 1, 1, 1, 2, 2};
@@ -319,7 +404,7 @@ static void document_seven(void) {
     for (enum call call = RESPONSES; call <= FIGURES; call++) {
         for (size_t places = 0; places < 2; places++) {
             mark();
-            expect(late.name, "the refusal", ask(call, sheet.at, size_of(&sheet), 0, 5, places), 15);
+            expect(late.name, "the refusal", ask(call, sheet.at, size_of(&sheet), 1, 0, 5, places), 15);
             if (places > 0) {
                 expect(late.name, "the task", values[0], 1);
             }
@@ -334,11 +419,11 @@ static void document_seven(void) {
 
 static void document_eight_to_ten(void) {
     struct bytes sheet = pack(&longest);
-    expect(longest.name, "taken", ask(RESPONSES, sheet.at, size_of(&sheet), 0, BELLKETTLE_TABLE, 3), 0);
+    expect(longest.name, "taken", ask(RESPONSES, sheet.at, size_of(&sheet), 1, 0, BELLKETTLE_TABLE, 3), 0);
     expect(longest.name, "H", values[0], 999000);
     expect_sheet(&most_jobs, BELLKETTLE_TABLE);
     sheet = pack(&most_jobs);
-    expect(most_jobs.name, "taken", ask(RESPONSES, sheet.at, size_of(&sheet), 0, BELLKETTLE_TABLE, 3), 0);
+    expect(most_jobs.name, "taken", ask(RESPONSES, sheet.at, size_of(&sheet), 1, 0, BELLKETTLE_TABLE, 3), 0);
     expect(most_jobs.name, "J", values[1], 8192);
 
     sheet = pack(&too_long);
@@ -388,15 +473,15 @@ static void refusals_of_fields(void) {
         int bit;
         struct fields fields;
     } refused[] = {
-        {2, COUNT_BIT, {"no task", 0, {0}, {0}, {0}, 0, {0}}},
-        {3, PERIOD_BIT(0), {"no period", 1, {0}, {1}, {1}, 1, {0}}},
-        {3, PERIOD_BIT(0), {"a period over 100,000", 1, {100001}, {1}, {1}, 1, {0}}},
-        {4, BUDGET_BIT(0), {"no budget", 1, {5}, {0}, {1}, 1, {0}}},
-        {5, RANK_BIT(1), {"a rank twice", 2, {5, 6}, {1, 1}, {7, 7}, 1, {0}}},
-        {6, LENGTH_BIT(1), {"no chain", 1, {5}, {1}, {1}, 0, {0}}},
-        {6, LENGTH_BIT(1), {"a chain over n", 1, {5}, {1}, {1}, 2, {0, 0}}},
-        {7, ENTRY_BIT(2, 0), {"an entry that is n", 2, {5, 6}, {1, 1}, {1, 2}, 1, {2}}},
-        {8, ENTRY_BIT(2, 1), {"an entry twice", 2, {5, 6}, {1, 1}, {1, 2}, 2, {1, 1}}},
+        {2, COUNT_BIT, {"no task", 0, {0}, {0}, {0}, {{0, {0}, 0}}, 0, 0}},
+        {3, PERIOD_BIT(0), {"no period", 1, {0}, {1}, {1}, {{1, {0}, 0}}, 0, 0}},
+        {3, PERIOD_BIT(0), {"a period over 100,000", 1, {100001}, {1}, {1}, {{1, {0}, 0}}, 0, 0}},
+        {4, BUDGET_BIT(0), {"no budget", 1, {5}, {0}, {1}, {{1, {0}, 0}}, 0, 0}},
+        {5, RANK_BIT(1), {"a rank twice", 2, {5, 6}, {1, 1}, {7, 7}, {{1, {0}, 0}}, 0, 0}},
+        {6, LENGTH_BIT(1), {"no chain", 1, {5}, {1}, {1}, {{0, {0}, 0}}, 0, 0}},
+        {6, LENGTH_BIT(1), {"a chain over n", 1, {5}, {1}, {1}, {{2, {0, 0}, 0}}, 0, 0}},
+        {7, ENTRY_BIT(2, 0), {"an entry that is n", 2, {5, 6}, {1, 1}, {1, 2}, {{1, {2}, 0}}, 0, 0}},
+        {8, ENTRY_BIT(2, 1), {"an entry twice", 2, {5, 6}, {1, 1}, {1, 2}, {{2, {1, 1}, 0}}, 0, 0}},
     };
     for (size_t i = 0; i < sizeof refused / sizeof *refused; i++) {
         expect_bad_field(&refused[i].fields, refused[i].refusal, refused[i].bit);
@@ -405,11 +490,24 @@ static void refusals_of_fields(void) {
 
 /* The largest sheet of so many tasks: as many entries. */
 static struct fields of_tasks(const char *name, uint32_t n) {
-    struct fields f = {.name = name, .n = n, .m = n};
+    struct fields f = {.name = name, .n = n};
+    f.chains[0].m = (uint8_t)n;
     for (uint8_t i = 0; i < n; i++) {
         f.periods[i] = 100;
         f.budgets[i] = 1;
-        f.ranks[i] = f.chain[i] = i;
+        f.ranks[i] = f.chains[0].entries[i] = i;
+    }
+    return f;
+}
+
+/* The same in edition 2, with so many chains. */
+static struct fields of_chains(const char *name, uint32_t n, uint32_t count) {
+    struct fields f = of_tasks(name, n);
+    f.second = 1;
+    f.count = count;
+    for (uint32_t c = 0; c < BELLKETTLE_CHAINS; c++) {
+        f.chains[c] = f.chains[0];
+        f.chains[c].limit = 1000 * c;
     }
     return f;
 }
@@ -424,7 +522,7 @@ static void refusals_at_every_place(void) {
         f.budgets[i] = 101;
         expect_bad_field(&f, 4, BUDGET_BIT(i));
         f = of_tasks("an entry of sixteen", 16);
-        f.chain[i] = 16;
+        f.chains[0].entries[i] = 16;
         expect_written(&f, BELLKETTLE_SHEET, 7, ENTRY_BIT(16, i));
     }
     for (uint32_t i = 1; i < BELLKETTLE_TASKS; i++) {
@@ -432,43 +530,167 @@ static void refusals_at_every_place(void) {
         f.ranks[i] = f.ranks[i - 1];
         expect_bad_field(&f, 5, RANK_BIT(i));
         f = of_tasks("a length", i);
-        f.m = 0;
+        f.chains[0].m = 0;
         expect_bad_field(&f, 6, LENGTH_BIT(i));
         f = of_tasks("the last entry", i);
-        f.chain[i - 1] = (uint8_t)i;
+        f.chains[0].entries[i - 1] = (uint8_t)i;
         expect_bad_field(&f, 7, ENTRY_BIT(i, i - 1));
         f = of_tasks("an entry that comes twice", 16);
-        f.chain[i] = f.chain[0];
+        f.chains[0].entries[i] = f.chains[0].entries[0];
         expect_bad_field(&f, 8, ENTRY_BIT(16, i));
     }
     struct fields f = of_tasks("the length of sixteen", 16);
-    f.m = 0;
+    f.chains[0].m = 0;
     expect_bad_field(&f, 6, LENGTH_BIT(16));
     f = of_tasks("sixteen", 16);
     expect_sheet(&f, 16);
 }
 
-/* More tasks or entries than there are places, and slices that are not of one length. */
-static void refusals_of_lengths(void) {
-    uint32_t numbers[300];
-    uint8_t bytes[300], out[BELLKETTLE_SHEET];
+/* Every field of edition 2 at its first place and at its last, which is in the eighth of eight chains. */
+static void refusals_of_the_second_edition(void) {
+    struct fields f = of_chains("no task", 1, 1);
+    f.n = 0;
+    expect_bad_field(&f, 2, MARKED(COUNT_BIT));
+    for (uint32_t i = 0; i < BELLKETTLE_TASKS; i++) {
+        f = of_chains("a period of sixteen", 16, 8);
+        f.periods[i] = 100001;
+        expect_bad_field(&f, 3, MARKED(PERIOD_BIT(i)));
+        f = of_chains("a budget of sixteen", 16, 8);
+        f.budgets[i] = 0;
+        expect_bad_field(&f, 4, MARKED(BUDGET_BIT(i)));
+        if (i > 0) {
+            f = of_chains("a rank of sixteen", 16, 8);
+            f.ranks[i] = f.ranks[i - 1];
+            expect_bad_field(&f, 5, MARKED(RANK_BIT(i)));
+        }
+    }
+    f = of_chains("no chain", 16, 0);
+    expect_bad_field(&f, 17, NO_BIT);
+    int p = FIRST_CHAIN(15);
+    for (uint32_t c = 0; c < BELLKETTLE_CHAINS; c++) {
+        f = of_chains("a limit over 4,000,000", 15, 8);
+        f.chains[c].limit = 4000000;
+        expect_sheet(&f, 15);
+        f.chains[c].limit = 4000001;
+        expect_bad_field(&f, 13, NO_BIT);
+        f = of_chains("a length of eight", 15, 8);
+        f.chains[c].m = 0;
+        expect_bad_field(&f, 6, CHAIN_LENGTH_BIT(p));
+        f.chains[c].m = 16;
+        expect_bad_field(&f, 6, CHAIN_LENGTH_BIT(p));
+        for (uint32_t j = 0; j < 15; j++) {
+            f = of_chains("an entry of a chain", 15, 8);
+            f.chains[c].entries[j] = 15;
+            expect_bad_field(&f, 7, CHAIN_ENTRY_BIT(p, j));
+            if (j > 0) {
+                f.chains[c].entries[j] = f.chains[c].entries[0];
+                expect_bad_field(&f, 8, CHAIN_ENTRY_BIT(p, j));
+            }
+        }
+        p = NEXT_CHAIN(p, 15);
+    }
+    const uint8_t editions[] = {0, 1, 3, 15};
+    for (size_t i = 0; i < sizeof editions; i++) {
+        f = of_chains("an edition that is none", 3, 2);
+        struct bytes sheet = pack(&f);
+        sheet.at[0] = (uint8_t)(0xF8 | editions[i] >> 1);
+        sheet.at[1] = (uint8_t)((sheet.at[1] & 0x7F) | (editions[i] & 1) << 7);
+        expect_all_refuse(f.name, sheet.at, size_of(&sheet), 0, 16, NO_BIT);
+        expect_read(f.name, sheet.at, size_of(&sheet), 16, NO_BIT, &f);
+    }
+    const uint8_t none[] = {0, 3, 15, 16, 17, 18, 255};
+    for (size_t i = 0; i < sizeof none; i++) {
+        f = of_chains("an edition that is none", 3, 2);
+        expect_written_as(none[i], &f, BELLKETTLE_SHEET, 16, NO_BIT);
+    }
+    f = of_chains("the largest sheet", 16, 8);
+    expect_sheet(&f, 16);
+    struct bytes largest = pack(&f);
+    expect(f.name, "its bytes", (int64_t)size_of(&largest), BELLKETTLE_SHEET);
+    f = of_chains("the smallest sheet of edition 2", 1, 1);
+    expect_sheet(&f, 1);
+    struct bytes smallest = pack(&f);
+    expect(f.name, "its bytes", (int64_t)size_of(&smallest), 12);
+}
+
+/* Radio's two chains on one sheet, each with its own limit. */
+static const struct fields both = {"Radio, two chains", 3, {20, 6, 12}, {5, 1, 3}, {1, 3, 2}, {{3, {0, 1, 2}, 39}, {2, {0, 1}, 4000000}}, 1, 2};
+
+static void several_chains(void) {
+    const uint32_t rows[] = {10, 9, 6, 1, 1, 1, 1, 1, 1, 1, 1, 1, 1, 4, 4, 4, 4, 4};
+    expect_sheet(&both, 18);
+    expect_given(&both, RESPONSES, 0, 18, rows, 3, (int64_t[]){60, 18, 20});
+    expect_of_chain(&both, DELAY, 1, 20, 18, rows, 1, (int64_t[]){20});
+    expect_of_chain(&both, DELAY, 2, 20, 18, rows, 1, (int64_t[]){11});
+    expect_of_chain(&both, MARGIN, 1, 40, 18, rows, 1, (int64_t[]){1});
+    expect_of_chain(&both, MARGIN, 2, 40, 18, rows, 1, (int64_t[]){8});
+    expect_of_chain(&both, DEFAULT_MARGIN, 1, 0, 18, rows, 1, (int64_t[]){961});
+    expect_of_chain(&both, DEFAULT_MARGIN, 2, 0, 18, rows, 1, (int64_t[]){968});
+    expect_of_chain(&both, FIGURES, 1, 0, 18, rows, 9, (int64_t[]){60, 18, 20, 20, 20, 24, 39, 43, 0});
+    expect_of_chain(&both, FIGURES, 2, 0, 18, rows, 9, (int64_t[]){60, 18, 20, 13, 0, 15, 32, 34, 3999968});
+    expect_of_chain(&both, QUICK_BOUND, 1, 0, 0, NULL, 2, (int64_t[]){24, 43});
+    expect_of_chain(&both, QUICK_BOUND, 2, 0, 0, NULL, 2, (int64_t[]){15, 34});
+}
+
+/* 17 for a number that the sheet lacks: after the fields, before all else that a call can refuse with. */
+static void chain_numbers(void) {
+    const struct fields *sheets[] = {&both, &radio, &late, &too_long, &too_many};
+    for (size_t i = 0; i < sizeof sheets / sizeof *sheets; i++) {
+        struct bytes sheet = pack(sheets[i]);
+        const uint8_t lacking[] = {0, (uint8_t)(chains_on(sheets[i]) + 1), 128, 255};
+        for (size_t k = 0; k < sizeof lacking; k++) {
+            for (enum call call = DELAY; call <= QUICK_BOUND; call++) {
+                mark();
+                expect(sheets[i]->name, "no such chain", ask(call, sheet.at, size_of(&sheet), lacking[k], UINT32_MAX, 0, VALUES), 17);
+                expect_marked(sheets[i]->name, 0, 0);
+                mark();
+                expect(sheets[i]->name, "a byte missing", ask(call, sheet.at, size_of(&sheet) - 1, lacking[k], UINT32_MAX, 0, VALUES), 1);
+            }
+        }
+    }
+}
+
+/* More tasks or chains than there are places, and slices that are not of one length. */
+static uint8_t write_lengths(uint8_t edition, size_t periods, size_t budgets, size_t ranks, size_t limits, size_t lengths, size_t entries) {
+    static uint32_t numbers[300];
+    static uint8_t bytes[300], ones[300], out[BELLKETTLE_SHEET];
     for (size_t i = 0; i < 300; i++) {
         numbers[i] = 1;
         bytes[i] = (uint8_t)i;
+        ones[i] = 1;
     }
+    mark();
+    return bellkettle_write(edition, numbers, periods, numbers, budgets, bytes, ranks, numbers, limits, ones, lengths, bytes, entries, out,
+                            sizeof out, values, 1);
+}
+
+static void refusals_of_lengths(void) {
     const uint8_t seventeen[] = {0x88, 0, 0, 0, 0, 0, 0};
     expect_all_refuse("seventeen tasks", seventeen, sizeof seventeen, 0, 2, COUNT_BIT);
-    expect("seventeen tasks", "writing", bellkettle_write(numbers, 17, numbers, 17, bytes, 17, bytes, 1, out, sizeof out, values, 1), 2);
-    expect("257 tasks", "writing", bellkettle_write(numbers, 257, numbers, 257, bytes, 257, bytes, 1, out, sizeof out, values, 1), 2);
-    expect("257 entries", "writing", bellkettle_write(numbers, 1, numbers, 1, bytes, 1, bytes, 257, out, sizeof out, values, 1), 6);
-    expect("257 entries", "the bit", values[0], LENGTH_BIT(1));
-    expect("a budget missing", "writing", bellkettle_write(numbers, 2, numbers, 1, bytes, 2, bytes, 1, out, sizeof out, values, 1), 2);
-    expect("a budget missing", "the bit", values[0], COUNT_BIT);
-    expect("a rank missing", "writing", bellkettle_write(numbers, 2, numbers, 2, bytes, 1, bytes, 1, out, sizeof out, values, 1), 2);
-    expect("a rank too many", "writing", bellkettle_write(numbers, 2, numbers, 2, bytes, 3, bytes, 1, out, sizeof out, values, 1), 2);
-    expect("nothing", "writing", bellkettle_write(NULL, 0, NULL, 0, NULL, 0, NULL, 0, NULL, 0, NULL, 0), 2);
-    expect("sixteen tasks", "writing", bellkettle_write(numbers, 16, numbers, 16, bytes, 16, bytes, 16, out, sizeof out, values, 1), 0);
-    expect("sixteen tasks", "the size", values[0], BELLKETTLE_SHEET);
+    for (uint8_t edition = 1; edition < 3; edition++) {
+        int count_bit = edition == 1 ? COUNT_BIT : MARKED(COUNT_BIT);
+        expect("seventeen tasks", "writing", write_lengths(edition, 17, 17, 17, 1, 1, 1), 2);
+        expect("257 tasks", "writing", write_lengths(edition, 257, 257, 257, 1, 1, 1), 2);
+        expect("a budget missing", "writing", write_lengths(edition, 2, 1, 2, 1, 1, 1), 2);
+        expect("a budget missing", "the bit", values[0], count_bit);
+        expect("a rank missing", "writing", write_lengths(edition, 2, 2, 1, 1, 1, 1), 2);
+        expect("a rank too many", "writing", write_lengths(edition, 2, 2, 3, 1, 1, 1), 2);
+        expect("sixteen tasks", "writing", write_lengths(edition, 16, 16, 16, 1, 1, 1), 0);
+        expect("no entries", "writing", write_lengths(edition, 16, 16, 16, 1, 1, 0), 0);
+    }
+    expect("nine chains", "writing", write_lengths(2, 1, 1, 1, 9, 9, 128), 17);
+    expect("257 chains", "writing", write_lengths(2, 1, 1, 1, 257, 257, 128), 17);
+    expect("a limit missing", "writing", write_lengths(2, 1, 1, 1, 1, 2, 128), 17);
+    expect("a limit too many", "writing", write_lengths(2, 1, 1, 1, 2, 1, 128), 17);
+    expect("no chains", "writing", write_lengths(2, 1, 1, 1, 0, 0, 128), 17);
+    expect("no chain", "writing", write_lengths(1, 1, 1, 1, 1, 0, 128), 6);
+    expect("no chain", "the bit", values[0], LENGTH_BIT(1));
+    expect("nine chains on an old sheet", "writing", write_lengths(1, 1, 1, 1, 5, 9, 128), 0);
+    expect("nine chains on an old sheet", "the size", values[0], 7);
+    expect("eight chains", "writing", write_lengths(2, 16, 16, 16, 8, 8, 1), 0);
+    expect("nothing", "writing", bellkettle_write(1, NULL, 0, NULL, 0, NULL, 0, NULL, 0, NULL, 0, NULL, 0, NULL, 0, NULL, 0), 2);
+    expect("nothing", "writing", bellkettle_write(2, NULL, 0, NULL, 0, NULL, 0, NULL, 0, NULL, 0, NULL, 0, NULL, 0, NULL, 0), 2);
+    expect("no edition", "writing", bellkettle_write(0, NULL, 0, NULL, 0, NULL, 0, NULL, 0, NULL, 0, NULL, 0, NULL, 0, NULL, 0), 16);
 }
 
 /* 12 and 13 come before 14. */
@@ -507,8 +729,8 @@ static void odd_periods(void) {
     expect_quick_bound(&just_fits, 1013, 1013 + 1012);
     expect_quick_late(&just_late, 2);
     expect_quick_late(&two_late, 1);
-    expect("nothing lent", "the number returned", bellkettle_quick_bound(sheet.at, size_of(&sheet), NULL, 0), 0);
-    expect("no place for the bit", "the refusal", bellkettle_quick_bound(NULL, 0, NULL, 0), 1);
+    expect("nothing lent", "the number returned", bellkettle_quick_bound(sheet.at, size_of(&sheet), 1, NULL, 0), 0);
+    expect("no place for the bit", "the refusal", bellkettle_quick_bound(NULL, 0, 1, NULL, 0), 1);
 }
 
 /* Lent memory that is short or none gets as much as it has places for. */
@@ -518,15 +740,30 @@ static void short_memory(void) {
     for (size_t places = 0; places < VALUES; places++) {
         expect_given(&radio, FIGURES, 0, 18, NULL, places, (int64_t[]){60, 18, 20, 20, 20, 24, 39, 43});
     }
-    expect("nothing lent", "the refusal", bellkettle_figures(sheet.at, size, NULL, 0, NULL, 0), 14);
-    expect("no place for the bit", "the refusal", bellkettle_figures(sheet.at, size - 1, table, 18, NULL, 0), 1);
-    expect("no values lent", "the number returned", bellkettle_figures(sheet.at, size, table, 18, NULL, 0), 0);
+    expect("nothing lent", "the refusal", bellkettle_figures(sheet.at, size, 1, NULL, 0, NULL, 0), 14);
+    expect("no place for the bit", "the refusal", bellkettle_figures(sheet.at, size - 1, 1, table, 18, NULL, 0), 1);
+    expect("no values lent", "the number returned", bellkettle_figures(sheet.at, size, 1, table, 18, NULL, 0), 0);
 
     uint32_t periods[] = {MARK, MARK, MARK};
-    expect("two periods of three", "reading", bellkettle_read(sheet.at, size, periods, 2, NULL, 0, NULL, 0, NULL, 0, NULL, 0), 0);
+    expect("two periods of three", "reading",
+           bellkettle_read(sheet.at, size, periods, 2, NULL, 0, NULL, 0, NULL, 0, NULL, 0, NULL, 0, NULL, 0), 0);
     expect("two periods of three", "the first", periods[0], 20);
     expect("two periods of three", "the second", periods[1], 6);
     expect("two periods of three", "the third", periods[2], MARK);
+
+    sheet = pack(&both);
+    size = size_of(&sheet);
+    uint32_t limits[] = {MARK, MARK};
+    uint8_t entries[19];
+    memset(entries, MARK_BYTE, sizeof entries);
+    expect("one limit of two", "reading",
+           bellkettle_read(sheet.at, size, NULL, 0, NULL, 0, NULL, 0, limits, 1, NULL, 0, entries, 18, NULL, 0), 0);
+    expect("one limit of two", "the first", limits[0], 39);
+    expect("one limit of two", "the second", limits[1], MARK);
+    expect("eighteen entries", "the last of the first chain", entries[2], 2);
+    expect("eighteen entries", "an unused place of it", entries[3], 0);
+    expect("eighteen entries", "the last of the second chain", entries[17], 1);
+    expect("eighteen entries", "one more", entries[18], MARK_BYTE);
 }
 
 int main(void) {
@@ -539,6 +776,9 @@ int main(void) {
     refusals_of_fields();
     refusals_at_every_place();
     refusals_of_lengths();
+    refusals_of_the_second_edition();
+    several_chains();
+    chain_numbers();
     refusals_of_numbers();
     first_periods();
     margin_below_zero();

@@ -1,12 +1,12 @@
-//! The chain: delay, sampling figure, its quick bound, worst, bound and margin, by the words of documents 01 and 02. Document 01 counts
+//! A chain of a sheet: delay, sampling figure, its quick bound, worst, bound and margin, by the words of documents 01 and 02. Document 01 counts
 //! from the release of the first task's job and calls its figure the worst; document 02 counts from the flag and calls that figure the
 //! sampling figure.
 
-use crate::schedule::{fill, sizes, Worked};
-use crate::sheet::{Memory, Task};
+use crate::schedule::{fill, sizes, Sizes, Worked};
+use crate::sheet::{judge, numbered, Memory, Task, OLD_LIMIT};
 use crate::Refusal;
 
-/// "The call without a limit uses 1,000 ticks", and so does the report.
+/// "The call without a limit uses 1,000 ticks."
 pub const DEFAULT_LIMIT: u32 = 1_000;
 
 /// The least multiple of `step` that is at least `x`.
@@ -101,28 +101,44 @@ impl Worked {
     }
 }
 
-fn chain_of(s: &Memory) -> &[u8] {
-    &s.chain[..s.length as usize]
+/// What is worked out of a sheet and the entries of one of its chains, up to 11: "17 for a chain number the sheet lacks, before 10".
+fn asked(s: &Memory, number: u8) -> Result<(Sizes, &[u8]), Refusal> {
+    judge(s)?;
+    numbered(s, number)?;
+    Ok((sizes(s)?, s.chain(number)))
 }
 
-pub fn delay(s: &Memory, release: u32, table: &mut [u32]) -> Result<u32, Refusal> {
-    let z = sizes(s)?;
-    if release % z.tasks[s.chain[0] as usize].period != 0 || release >= z.hyperperiod {
+pub fn delay(s: &Memory, number: u8, release: u32, table: &mut [u32]) -> Result<u32, Refusal> {
+    let (z, chain) = asked(s, number)?;
+    if release % z.tasks[chain[0] as usize].period != 0 || release >= z.hyperperiod {
         return Err(12.into());
     }
-    Ok(fill(z, table)?.delay(chain_of(s), release))
+    Ok(fill(z, table)?.delay(chain, release))
 }
 
-pub fn margin(s: &Memory, limit: u32, table: &mut [u32]) -> Result<i64, Refusal> {
-    let z = sizes(s)?;
+pub fn margin(s: &Memory, number: u8, limit: u32, table: &mut [u32]) -> Result<i64, Refusal> {
+    let (z, chain) = asked(s, number)?;
     if limit > 4_000_000 {
         return Err(13.into());
     }
-    Ok(fill(z, table)?.figures(chain_of(s), limit).margin)
+    Ok(fill(z, table)?.figures(chain, limit).margin)
 }
 
-pub fn figures(s: &Memory, table: &mut [u32]) -> Result<(Worked, Figures), Refusal> {
+/// "the report prints the chain lines once per chain, with the margin under its limit", for an old sheet under 1,000.
+fn report_limit(s: &Memory, number: u8) -> u32 {
+    if s.edition == 1 { OLD_LIMIT } else { s.chains[usize::from(number) - 1].limit }
+}
+
+pub fn figures(s: &Memory, number: u8, table: &mut [u32]) -> Result<(Worked, Figures), Refusal> {
+    let (z, chain) = asked(s, number)?;
+    let worked = fill(z, table)?;
+    let figures = worked.figures(chain, report_limit(s, number));
+    Ok((worked, figures))
+}
+
+/// The figures of every chain, from the first on.
+pub fn suite(s: &Memory, table: &mut [u32]) -> Result<(Worked, Vec<Figures>), Refusal> {
     let worked = fill(sizes(s)?, table)?;
-    let figures = worked.figures(chain_of(s), DEFAULT_LIMIT);
+    let figures = (1..=s.chain_count()).map(|number| worked.figures(s.chain(number), report_limit(s, number))).collect();
     Ok((worked, figures))
 }

@@ -5,7 +5,7 @@ use crate::random::Random;
 use crate::schedule::{night, sizes, Night};
 use crate::sheet::{Memory, Task};
 
-/// What is claimed of a sheet's chain: from the release of a job the sampling figure and its bound, from a flag the worst and its bound.
+/// What is claimed of a chain of a sheet: from the release of a job the sampling figure and its bound, from a flag the worst and its bound.
 #[derive(Clone, Copy, Debug)]
 pub struct Claim {
     pub sampling: u32,
@@ -115,9 +115,8 @@ fn raise(d: &Drawn, first: u8, ticks: u32, longest: u32) -> Result<u64, String> 
 
 /// Where ranks rise along the chain, the reading released where the claim says takes exactly as long as the sampling figure with full
 /// budgets.
-fn try_demands(s: &Memory, claim: Claim, demands: Demands, random: &mut Random) -> Result<Followed, String> {
+fn try_demands(s: &Memory, chain: &[u8], claim: Claim, demands: Demands, random: &mut Random) -> Result<Followed, String> {
     let z = sizes(s).map_err(|r| r.to_string())?;
-    let chain = &s.chain[..s.length as usize];
     let d = drawn(&z.tasks, chain, 2 * z.hyperperiod + claim.worst, demands, random);
     let (releases, reached) = follow(&d, z.tasks[chain[0] as usize].period, z.hyperperiod, claim.sampling)?;
     let rising = chain.windows(2).all(|pair| z.tasks[pair[0] as usize].rank < z.tasks[pair[1] as usize].rank);
@@ -136,8 +135,8 @@ fn try_demands(s: &Memory, claim: Claim, demands: Demands, random: &mut Random) 
 
 const EACH: [Demands; 5] = [Demands::Full, Demands::Least, Demands::Any, Demands::Any, Demands::Extremes];
 
-/// Holds a claim on an accepted sheet to schedules with full budgets, with one tick each, and with demands by chance.
-pub fn experiment(s: &Memory, claim: Claim, random: &mut Random) -> Result<Followed, String> {
+/// Holds a claim on a chain of an accepted sheet to schedules with full budgets, with one tick each, and with demands by chance.
+pub fn experiment(s: &Memory, number: u8, claim: Claim, random: &mut Random) -> Result<Followed, String> {
     for (name, figure, bound) in [("sampling figure", claim.sampling, claim.sampling_bound), ("worst", claim.worst, claim.bound)] {
         if figure > bound {
             return Err(format!("the {name} {figure} is above its bound {bound}"));
@@ -145,14 +144,15 @@ pub fn experiment(s: &Memory, claim: Claim, random: &mut Random) -> Result<Follo
     }
     let mut sum = Followed::default();
     for demands in EACH {
-        sum.add(&try_demands(s, claim, demands, random).map_err(|trouble| format!("{demands:?} demands: {trouble}"))?);
+        sum.add(&try_demands(s, s.chain(number), claim, demands, random).map_err(|trouble| format!("{demands:?} demands: {trouble}"))?);
     }
     Ok(sum)
 }
 
-/// Holds the bounds that are claimed of a sheet of any hyperperiod, from a release and from a flag, to the first ticks of such schedules.
-pub fn experiment_with_bounds(s: &Memory, sampling_bound: u32, bound: u32, random: &mut Random) -> Result<Followed, String> {
-    let (tasks, chain) = (&s.tasks[..s.count as usize], &s.chain[..s.length as usize]);
+/// Holds the bounds that are claimed of a chain on a sheet of any hyperperiod, from a release and from a flag, to the first ticks of such
+/// schedules.
+pub fn experiment_with_bounds(s: &Memory, number: u8, sampling_bound: u32, bound: u32, random: &mut Random) -> Result<Followed, String> {
+    let (tasks, chain) = (s.tasks(), s.chain(number));
     let ticks = 3 * tasks.iter().map(|t| t.period).max().unwrap();
     let mut sum = Followed::default();
     for demands in EACH {

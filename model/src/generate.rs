@@ -4,7 +4,7 @@ use crate::probe::{Call, Handed, Lent, Request, CALLS};
 use crate::random::Random;
 use crate::recurrence::response;
 use crate::schedule::sizes;
-use crate::sheet::{encoded, memory, unjudged, Memory, Task};
+use crate::sheet::{chain as limited, marked_bits, memory, numbered, packed, suite, to_second, unjudged, Chain, Memory, Task, OLD_LIMIT};
 use crate::{arith, chain};
 
 /// Ticks with many divisors, from which periods are taken. The model goes tick by tick, so the last are rare.
@@ -68,12 +68,32 @@ fn chain_of(r: &mut Random, tasks: &[Task]) -> Vec<u8> {
     chain
 }
 
+/// A chain's own limit: any that is allowed, its ends, and the one that an old sheet's chain gets.
+fn own_limit(r: &mut Random) -> u32 {
+    match r.between(0, 4) {
+        0 => r.pick(&[0, 1, 3_999_999, 4_000_000]),
+        1 => r.between(0, 4_000_000),
+        2 => r.between(0, 2_000),
+        _ => OLD_LIMIT,
+    }
+}
+
+/// An old sheet, or one with several chains over the same tasks, some of which may be alike.
 fn sheet_of(r: &mut Random, periods: &[u32], budgets: &[u32]) -> Memory {
     let ranks = ranks(r, periods);
     let tasks: Vec<Task> =
         periods.iter().zip(budgets).zip(ranks).map(|((&period, &budget), rank)| Task { period, budget, rank }).collect();
-    let chain = chain_of(r, &tasks);
-    memory(&tasks, &chain)
+    if r.one_in(2) {
+        return memory(&tasks, &chain_of(r, &tasks));
+    }
+    let count = r.pick(&[1, 1, 2, 3, 4, 5, 6, 7, 8, 8]);
+    let chains: Vec<Chain> = (0..count).map(|_| limited(own_limit(r), &chain_of(r, &tasks))).collect();
+    suite(&tasks, &chains)
+}
+
+/// The number of a chain that the sheet has.
+pub fn some_chain(r: &mut Random, s: &Memory) -> u8 {
+    r.between(1, s.chain_count().into()) as u8
 }
 
 /// A sheet with nothing wrong in its fields; some are late.
@@ -98,7 +118,7 @@ fn odd_periods(r: &mut Random, n: u32) -> Vec<u32> {
 
 /// The period of the lowest rank made such that its value just fits, or just does not.
 fn tight(r: &mut Random, s: &mut Memory) {
-    let tasks = &s.tasks[..s.count as usize];
+    let tasks = s.tasks();
     let low = (0..tasks.len()).min_by_key(|&i| tasks[i].rank).unwrap();
     if let Some(value) = response(tasks, low) {
         s.tasks[low].period = value.saturating_sub(r.pick(&[0, 0, 1])).max(tasks[low].budget);
@@ -144,25 +164,40 @@ fn fault(r: &mut Random, s: &mut Memory) {
     let used = u32::from(s.count.clamp(1, 16)) - 1;
     let (i, j) = (r.between(0, used) as usize, r.between(0, used) as usize);
     let (n, period) = (s.count, s.tasks[i].period);
-    match r.between(0, 7) {
+    let last = s.chain_count().clamp(1, 8) - 1;
+    let c = &mut s.chains[r.between(0, last.into()) as usize];
+    match r.between(0, 10) {
         0 => s.count = r.pick(&[0, 17, 18, 31, 255, n.wrapping_add(1), n.wrapping_sub(1)]),
         1 => s.tasks[i].period = r.pick(&[0, 1, 100_000, 100_001, 131_071, 131_072, u32::MAX]),
         2 => s.tasks[i].budget = r.pick(&[0, 1, period, period.wrapping_add(1), 131_071, 131_073, u32::MAX]),
         3 => s.tasks[i].rank = s.tasks[j].rank,
-        4 => s.length = r.pick(&[0, 17, 31, 255, n, n.wrapping_add(1)]),
-        5 => s.chain[j] = r.pick(&[0, 15, 16, 255, n, n.wrapping_sub(1)]),
-        6 => s.chain[i] = s.chain[j],
+        4 => c.length = r.pick(&[0, 17, 31, 255, n, n.wrapping_add(1)]),
+        5 => c.entries[j] = r.pick(&[0, 15, 16, 255, n, n.wrapping_sub(1)]),
+        6 => c.entries[i] = c.entries[j],
+        7 => c.limit = r.pick(&[0, 4_000_000, 4_000_001, 4_194_303, 4_194_304, 4_194_304 + 1_000, u32::MAX]),
+        8 => s.suite = r.pick(&[0, 1, 8, 9, 15, 16, 17, 255]),
+        9 => s.edition = r.pick(&[0, 1, 2, 3, 15, 17, 18, 255]),
         _ => s.tasks[i] = Task { period: r.any_size(), budget: r.any_size(), rank: r.word() as u8 },
     }
 }
 
-/// What stands in places that no count reaches.
+/// What stands in places that no count reaches, and of an old sheet in what it ignores.
 fn noise(r: &mut Random, s: &mut Memory) {
     for i in usize::from(s.count).min(16)..16 {
         s.tasks[i] = Task { period: r.any_size(), budget: r.any_size(), rank: r.word() as u8 };
     }
-    for i in usize::from(s.length).min(16)..16 {
-        s.chain[i] = r.word() as u8;
+    if s.edition == 1 {
+        s.suite = r.pick(&[0, 1, 2, 8, 9, 255]);
+        s.chains[0].limit = r.any_size();
+    }
+    let used = usize::from(s.chain_count()).min(8);
+    for c in &mut s.chains[used..] {
+        *c = Chain { limit: r.any_size(), length: r.pick(&[0, 1, 16, 17, 255]), entries: [r.word() as u8; 16] };
+    }
+    for c in &mut s.chains[..used] {
+        for i in usize::from(c.length).min(16)..16 {
+            c.entries[i] = r.word() as u8;
+        }
     }
 }
 
@@ -171,13 +206,13 @@ fn damage(r: &mut Random, bytes: &mut Vec<u8>) {
     let last = bytes.len() - 1;
     match r.between(0, 5) {
         0 => bytes.truncate(r.between(0, last as u32) as usize),
-        1 => bytes.extend(vec![0; r.pick(&[1, 1, 2, 4_000])]),
+        1 => bytes.extend(vec![0; r.pick(&[1, 1, 2, 3_900])]),
         2 => {
             let more = r.between(1, 3);
             bytes.extend(r.bytes(more));
         }
         3 => {
-            let size = r.between(0, 100);
+            let size = r.between(0, 200);
             *bytes = r.bytes(size);
         }
         4 => {
@@ -209,7 +244,10 @@ fn any_sheet(r: &mut Random) -> Memory {
 
 fn handed_as_bytes(r: &mut Random) -> Vec<u8> {
     let s = any_sheet(r);
-    let mut bytes = unjudged(&s);
+    let mut bytes = match r.between(0, 29) {
+        0 => packed(&marked_bits(r.pick(&[0, 1, 3, 15]), &s)),
+        _ => unjudged(&s),
+    };
     if r.one_in(5) {
         damage(r, &mut bytes);
     }
@@ -249,19 +287,28 @@ fn lent(r: &mut Random, call: Call, sheet: &Handed) -> Lent {
     let seen = sheet.memory();
     match call {
         Call::Write => {
-            let fields = seen.filter(|s| s.count <= 16 && s.length <= 16);
-            let size = fields.map(|s| encoded(&s.tasks[..s.count.into()], &s.chain[..s.length.into()]).len() as u32);
-            let room = length(r, size);
+            let room = length(r, seen.map(|s| unjudged(&s).len() as u32));
             Lent::Bytes(r.bytes(room))
         }
-        Call::Judge | Call::Sizes | Call::QuickBound => Lent::Bytes(vec![]),
+        Call::Judge | Call::Sizes | Call::QuickBound | Call::ToSecond | Call::ToFirst | Call::Numbered => Lent::Bytes(vec![]),
         _ => table(r, seen.and_then(|s| sizes(&s).ok()).map(|z| z.jobs)),
     }
 }
 
+/// The number of a chain: mostly one that the sheet has, else one less than the first, one more than the last, or anything.
+fn chain_number(r: &mut Random, seen: Option<Memory>) -> u32 {
+    let count = u32::from(seen.map_or(1, |s| s.chain_count()));
+    match r.between(0, 15) {
+        0 => r.pick(&[0, 255]),
+        1 => (count + 1).min(255),
+        2 => r.between(0, 255),
+        3 => count,
+        _ => r.between(1, count.max(1)),
+    }
+}
+
 /// A release: mostly one that the chain's first task has, else near one, at H, past it, or anything.
-fn release(r: &mut Random, s: &Memory, hyperperiod: u32) -> u32 {
-    let period = s.tasks[s.chain[0] as usize].period;
+fn release(r: &mut Random, period: u32, hyperperiod: u32) -> u32 {
     let last = hyperperiod - period;
     match r.between(0, 11) {
         0 => hyperperiod,
@@ -284,29 +331,41 @@ fn limit(r: &mut Random) -> u32 {
 }
 
 /// A limit that the worst is, or is off by one.
-fn tight_limit(r: &mut Random, s: &Memory) -> u32 {
-    match chain::figures(s, &mut [0; 8_192]) {
+fn tight_limit(r: &mut Random, s: &Memory, chain: u8) -> u32 {
+    match chain::figures(s, chain, &mut [0; 8_192]) {
         Ok((_, figures)) => figures.worst + r.pick(&[0, 1, 2]) - 1,
         Err(_) => limit(r),
     }
 }
 
 /// The release or the limit of a call that takes one.
-fn number(r: &mut Random, call: Call, seen: Option<Memory>) -> u32 {
-    let sized = seen.and_then(|s| Some((s, sizes(&s).ok()?.hyperperiod)));
+fn number(r: &mut Random, call: Call, seen: Option<Memory>, chain: u8) -> u32 {
+    let sized = seen.and_then(|s| Some((s, sizes(&s).ok()?.hyperperiod))).filter(|(s, _)| numbered(s, chain).is_ok());
     match (call, sized) {
-        (Call::Delay, Some((s, hyperperiod))) => release(r, &s, hyperperiod),
-        (Call::Margin, Some((s, hyperperiod))) if hyperperiod <= 3_000 && r.one_in(3) => tight_limit(r, &s),
+        (Call::Delay, Some((s, hyperperiod))) => release(r, s.tasks[s.chain(chain)[0] as usize].period, hyperperiod),
+        (Call::Margin, Some((s, hyperperiod))) if hyperperiod <= 3_000 && r.one_in(3) => tight_limit(r, &s, chain),
         (Call::Margin, _) => limit(r),
         _ => r.any_size(),
     }
 }
 
 fn of_sheet(r: &mut Random, call: Call) -> Request {
-    let sheet = handed(r);
+    let sheet = match call {
+        Call::ToFirst => goes_back(r),
+        _ => handed(r),
+    };
     let lent = lent(r, call, &sheet);
-    let number = number(r, call, sheet.memory());
-    Request { call, numbers: [number, 0, 0], sheet, lent }
+    let chain = if call.names_a_chain() { chain_number(r, sheet.memory()) } else { 0 };
+    let number = number(r, call, sheet.memory(), chain as u8);
+    Request { call, numbers: [number, chain, 0], sheet, lent }
+}
+
+/// Mostly a sheet that was converted, so that it goes back.
+fn goes_back(r: &mut Random) -> Handed {
+    match handed(r) {
+        Handed::Memory(s) if !r.one_in(4) => Handed::Memory(to_second(&s).unwrap_or(s)),
+        other => other,
+    }
 }
 
 /// Two numbers that often have something in common.

@@ -14,7 +14,7 @@ pub mod schedule;
 pub mod sheet;
 pub mod vectors;
 
-/// A number of document 01's table. 1 to 9 come with the bit at which the judged field begins, 15 with the late task.
+/// A number of document 01's table or of document 02. 1 to 9 come with the bit at which the judged field begins, 15 with the late task.
 #[derive(Clone, Copy, PartialEq, Eq, Debug)]
 pub struct Refusal {
     pub number: u8,
@@ -24,6 +24,11 @@ pub struct Refusal {
 impl Refusal {
     pub fn with(number: u8, value: usize) -> Refusal {
         Refusal { number, value: Some(value as u32) }
+    }
+
+    /// "Give with numbers 1 to 9 the bit offset where the judged field begins."
+    pub fn at(number: u8, bit: usize) -> Refusal {
+        if number <= 9 { Refusal::with(number, bit) } else { number.into() }
     }
 }
 

@@ -2,7 +2,7 @@
 
 use crate::recurrence::quick;
 use crate::schedule::Worked;
-use crate::sheet::{judge, read, write, Memory};
+use crate::sheet::{judge, numbered, read, to_first, to_second, write, Chain, Memory};
 use crate::{arith, bits, chain, schedule, Refusal};
 use std::fmt;
 use std::io::{Read as _, Write as _};
@@ -29,28 +29,38 @@ pub enum Call {
     DefaultMargin,
     Figures,
     QuickBound,
+    Suite,
+    ToSecond,
+    ToFirst,
+    Numbered,
 }
 
 use Call::*;
 
-pub const CALLS: [Call; 18] = [
+pub const CALLS: [Call; 22] = [
     Gcd, Lcm, Up, Magnitude, Number, Put, Read, Greatest, Judge, Write, Sizes, Responses, TaskResponses, Delay, Margin, DefaultMargin,
-    Figures, QuickBound,
+    Figures, QuickBound, Suite, ToSecond, ToFirst, Numbered,
 ];
 
 impl Call {
     /// The numbers of refusal that the call can give, of the reader before it too.
     pub fn refusals(self) -> Vec<u8> {
+        let fields = (1..=9).chain([13, 16, 17]);
         match self {
             Gcd | Lcm | Up | Magnitude | Number | Put | Greatest => vec![],
-            Read | Judge => (1..=9).collect(),
-            Write => (1..=9).chain([14]).collect(),
-            Sizes => (1..=11).collect(),
-            Responses | TaskResponses | DefaultMargin | Figures => (1..=11).chain([14, 15]).collect(),
-            Delay => (1..=12).chain([14, 15]).collect(),
-            Margin => (1..=11).chain([13, 14, 15]).collect(),
-            QuickBound => (1..=9).chain([15]).collect(),
+            Read | Judge | ToSecond | Numbered => fields.collect(),
+            ToFirst => fields.chain([18]).collect(),
+            Write => fields.chain([14]).collect(),
+            Sizes => fields.chain([10, 11]).collect(),
+            Responses | TaskResponses | Margin | DefaultMargin | Figures | Suite => fields.chain([10, 11, 14, 15]).collect(),
+            Delay => fields.chain([10, 11, 12, 14, 15]).collect(),
+            QuickBound => fields.chain([15]).collect(),
         }
+    }
+
+    /// Whether a request of the call names a chain.
+    pub fn names_a_chain(self) -> bool {
+        matches!(self, Delay | Margin | DefaultMargin | Figures | QuickBound | Numbered)
     }
 }
 
@@ -78,6 +88,7 @@ pub enum Lent {
     Table { room: usize, words: Vec<u32> },
 }
 
+/// Of a call on a sheet the first number is a release or a limit, and the second the number of the chain.
 #[derive(Clone)]
 pub struct Request {
     pub call: Call,
@@ -95,7 +106,10 @@ impl fmt::Display for Request {
         }
         if let Some(s) = self.sheet.memory() {
             let tasks: Vec<_> = s.tasks.iter().map(|t| (t.period, t.budget, t.rank)).collect();
-            write!(f, "\n  count {} tasks {tasks:?}\n  length {} chain {:?}", s.count, s.length, s.chain)?;
+            write!(f, "\n  edition {} count {} tasks {tasks:?}\n  chains {}", s.edition, s.count, s.suite)?;
+            for c in s.chains {
+                write!(f, "\n    limit {} length {} entries {:?}", c.limit, c.length, c.entries)?;
+            }
         }
         match &self.lent {
             Lent::Bytes(bytes) => write!(f, "\n  lent {} bytes {}", bytes.len(), hex(bytes)),
@@ -110,7 +124,7 @@ fn hex(bytes: &[u8]) -> String {
     groups.collect::<Vec<_>>().join(" ")
 }
 
-/// The words of an answer; of lent bytes the last may be lost.
+/// The words of an answer, or of other bytes; the last that make no word are lost.
 pub fn words(answer: &[u8]) -> Vec<u32> {
     answer.chunks_exact(4).map(|w| u32::from_be_bytes(w.try_into().unwrap())).collect()
 }
@@ -131,12 +145,16 @@ fn big_endian(words: &[u32]) -> Vec<u8> {
 
 /// A sheet in memory, field by field.
 fn fields(s: &Memory) -> Vec<u8> {
-    let mut bytes = vec![s.count, s.length];
+    let mut bytes = vec![s.edition, s.count, s.suite];
     for t in s.tasks {
         bytes.extend(big_endian(&[t.period, t.budget]));
         bytes.push(t.rank);
     }
-    bytes.extend(s.chain);
+    for c in s.chains {
+        bytes.extend(big_endian(&[c.limit]));
+        bytes.push(c.length);
+        bytes.extend(c.entries);
+    }
     bytes
 }
 
@@ -187,10 +205,11 @@ fn signed(x: i64) -> Vec<u32> {
     [vec![u32::from(x < 0)], long(x.unsigned_abs())].concat()
 }
 
-/// The sheet that a reading leaves, blank after a refusal: the counts, then place by place.
+/// The sheet that a call answers, blank after a refusal: edition and counts, then place by place, entries four to a word.
 fn sheet_values(s: &Memory) -> Vec<u32> {
-    let places = s.tasks.iter().zip(s.chain).flat_map(|(t, e)| [t.period, t.budget, t.rank.into(), e.into()]);
-    [u32::from(s.count), s.length.into()].into_iter().chain(places).collect()
+    let tasks = s.tasks.iter().flat_map(|t| [t.period, t.budget, t.rank.into()]);
+    let chain = |c: &Chain| [vec![c.limit, c.length.into()], words(&c.entries)].concat();
+    [s.edition, s.count, s.suite].map(u32::from).into_iter().chain(tasks).chain(s.chains.iter().flat_map(chain)).collect()
 }
 
 fn totals(w: &Worked) -> Vec<u32> {
@@ -207,21 +226,34 @@ fn greatest(w: &Worked) -> Vec<u32> {
     sixteen(w.greatest_responses())
 }
 
-fn of_sheet(call: Call, number: u32, s: &Memory, buffer: &mut [u8], table: &mut [u32]) -> Told {
+/// Sampling figure, its release and bound, worst, bound and margin.
+fn chain_values(f: &chain::Figures) -> Vec<u32> {
+    [vec![f.sampling, f.release, f.sampling_bound, f.worst, f.bound], signed(f.margin)].concat()
+}
+
+/// What is said of each chain, the totals too, in eight places.
+fn eight(totals: &[u32], chains: &[chain::Figures]) -> Vec<u32> {
+    let mut values: Vec<u32> = chains.iter().flat_map(|f| [totals, &chain_values(f)].concat()).collect();
+    values.resize(8 * 11, 0);
+    values
+}
+
+fn of_sheet(call: Call, number: u32, chain: u8, s: &Memory, buffer: &mut [u8], table: &mut [u32]) -> Told {
     match call {
         Judge => judge(s).map(|_| vec![]),
         Write => Ok(long(write(s, buffer)? as u64)),
         Sizes => schedule::sizes(s).map(|z| vec![z.hyperperiod, z.jobs]),
         Responses => schedule::responses(s, table).map(|w| totals(&w)),
         TaskResponses => schedule::responses(s, table).map(|w| [totals(&w), greatest(&w)].concat()),
-        Delay => chain::delay(s, number, table).map(|d| vec![d]),
-        Margin => chain::margin(s, number, table).map(signed),
-        DefaultMargin => chain::margin(s, chain::DEFAULT_LIMIT, table).map(signed),
-        Figures => chain::figures(s, table).map(|(w, f)| {
-            let ticks = vec![f.sampling, f.release, f.sampling_bound, f.worst, f.bound];
-            [totals(&w), ticks, signed(f.margin), greatest(&w)].concat()
-        }),
-        QuickBound => quick(s).map(|q| [vec![q.sampling_bound, q.bound], sixteen(q.responses)].concat()),
+        Delay => chain::delay(s, chain, number, table).map(|d| vec![d]),
+        Margin => chain::margin(s, chain, number, table).map(signed),
+        DefaultMargin => chain::margin(s, chain, chain::DEFAULT_LIMIT, table).map(signed),
+        Figures => chain::figures(s, chain, table).map(|(w, f)| [totals(&w), chain_values(&f), greatest(&w)].concat()),
+        QuickBound => quick(s, chain).map(|q| [vec![q.sampling_bound, q.bound], sixteen(q.responses)].concat()),
+        Suite => chain::suite(s, table).map(|(w, chains)| [totals(&w), greatest(&w), eight(&totals(&w), &chains)].concat()),
+        ToSecond => to_second(s).map(|s| sheet_values(&s)),
+        ToFirst => to_first(s).map(|s| sheet_values(&s)),
+        Numbered => numbered(s, chain).map(|_| vec![]),
         _ => unreachable!("{call:?} takes no sheet"),
     }
 }
@@ -240,16 +272,18 @@ fn told(q: &Request, buffer: &mut [u8], table: &mut [u32]) -> Told {
         }
         (Read, Handed::Bytes(bytes)) => Ok(sheet_values(&read(bytes)?)),
         (Greatest, _) => Ok(vec![table.iter().copied().max().unwrap_or(0)]),
-        (call, Handed::Bytes(bytes)) => of_sheet(call, a, &read(bytes)?, buffer, table),
-        (call, Handed::Memory(s)) => of_sheet(call, a, s, buffer, table),
+        (call, Handed::Bytes(bytes)) => of_sheet(call, a, b as u8, &read(bytes)?, buffer, table),
+        (call, Handed::Memory(s)) => of_sheet(call, a, b as u8, s, buffer, table),
     }
 }
 
-/// What stands in an answer even after a refusal by the call itself: a blank sheet, or sixteen zeros for R.
+/// What stands in an answer even after a refusal by the call itself: a blank sheet, or zeros for R and for what is said of each chain.
 fn values_of_a_refusal(q: &Request) -> Vec<u32> {
     match q.call {
         Read => sheet_values(&Memory::default()),
+        ToSecond | ToFirst if q.sheet.memory().is_some() => sheet_values(&Memory::default()),
         TaskResponses | Figures | QuickBound if q.sheet.memory().is_some() => vec![0; 16],
+        Suite if q.sheet.memory().is_some() => [vec![0; 16], eight(&[], &[])].concat(),
         _ => vec![],
     }
 }

@@ -1,7 +1,7 @@
 //! The response of a task as the least fixed point of document 02's rule, with no schedule, and the quick bound from these alone.
 
 use crate::chain::{quick_bound, wait};
-use crate::sheet::{judge, Memory, Task};
+use crate::sheet::{judge, numbered, Memory, Task};
 use crate::Refusal;
 
 /// "own budget, plus for each outranking task its budget times (the candidate divided by that task's period, the quotient rounded up)"
@@ -38,9 +38,10 @@ pub struct Quick {
 }
 
 /// "10, 11 and 14 do not occur in this call; 15 names the greatest-ranked task whose value passes its period."
-pub fn quick(s: &Memory) -> Result<Quick, Refusal> {
+pub fn quick(s: &Memory, number: u8) -> Result<Quick, Refusal> {
     judge(s)?;
-    let (tasks, chain) = (&s.tasks[..s.count as usize], &s.chain[..s.length as usize]);
+    numbered(s, number)?;
+    let (tasks, chain) = (s.tasks(), s.chain(number));
     let values: Vec<Option<u32>> = (0..tasks.len()).map(|i| response(tasks, i)).collect();
     let late = (0..tasks.len()).filter(|&i| values[i].is_none()).max_by_key(|&i| tasks[i].rank);
     if let Some(late) = late {

@@ -1,29 +1,37 @@
-//! The lines of the programs report and bound.
+//! The lines of the programs report and bound, and what the program convert answers.
 
-use crate::chain::figures;
+use crate::chain::suite;
 use crate::recurrence::quick;
-use crate::sheet::{read, Memory};
+use crate::sheet::{read, to_first, to_second, write, Memory};
 use crate::Refusal;
 
-/// "each index with R; the chain's indices"
-fn tasks_and_chain(s: &Memory, responses: &[u32]) -> String {
-    let tasks: String = responses.iter().enumerate().map(|(i, response)| format!("task {i} response {response}\n")).collect();
-    let chain: String = s.chain[..s.length as usize].iter().map(|entry| format!(" {entry}")).collect();
-    format!("{tasks}chain{chain}\n")
+/// "each index with R"
+fn task_lines(responses: &[u32]) -> String {
+    responses.iter().enumerate().map(|(i, response)| format!("task {i} response {response}\n")).collect()
 }
 
+/// "the chain's indices"
+fn chain_line(s: &Memory, number: u8) -> String {
+    let entries: String = s.chain(number).iter().map(|entry| format!(" {entry}")).collect();
+    format!("chain{entries}\n")
+}
+
+/// "the report prints the chain lines once per chain"
 fn report_lines(bytes: &[u8]) -> Result<String, Refusal> {
     let s = read(bytes)?;
-    let (w, f) = figures(&s, &mut [0; 8_192])?;
+    let (w, chains) = suite(&s, &mut [0; 8_192])?;
     let first = format!("tasks {} hyperperiod {} jobs {} idle {}\n", s.count, w.hyperperiod, w.jobs, w.idle);
-    let last = format!("worst {} from {}\nbound {}\nmargin {}\n", f.worst, f.release, f.bound, f.margin);
-    Ok(first + &tasks_and_chain(&s, &w.greatest_responses()) + &last)
+    let lines = chains.iter().zip(1..).map(|(f, number)| {
+        chain_line(&s, number) + &format!("worst {} from {}\nbound {}\nmargin {}\n", f.worst, f.release, f.bound, f.margin)
+    });
+    Ok(first + &task_lines(&w.greatest_responses()) + &lines.collect::<String>())
 }
 
 fn bound_lines(bytes: &[u8]) -> Result<String, Refusal> {
     let s = read(bytes)?;
-    let q = quick(&s)?;
-    Ok(tasks_and_chain(&s, &q.responses) + &format!("bound {}\n", q.bound))
+    let chains = (1..=s.chain_count()).map(|number| quick(&s, number)).collect::<Result<Vec<_>, _>>()?;
+    let lines = chains.iter().zip(1..).map(|(q, number)| chain_line(&s, number) + &format!("bound {}\n", q.bound));
+    Ok(task_lines(&chains[0].responses) + &lines.collect::<String>())
 }
 
 fn or_refusal(lines: Result<String, Refusal>) -> String {
@@ -37,4 +45,14 @@ pub fn report(bytes: &[u8]) -> String {
 /// The quick bound with no table, and what it is made of.
 pub fn bound(bytes: &[u8]) -> String {
     or_refusal(bound_lines(bytes))
+}
+
+/// The bytes of the sheet in the edition that is wanted, 1 or 2.
+pub fn converted(edition: u8, bytes: &[u8]) -> Result<Vec<u8>, Refusal> {
+    let s = read(bytes)?;
+    let s = if edition == 1 { to_first(&s)? } else { to_second(&s)? };
+    let mut buffer = vec![0; 178];
+    let size = write(&s, &mut buffer)?;
+    buffer.truncate(size);
+    Ok(buffer)
 }

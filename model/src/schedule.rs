@@ -64,10 +64,10 @@ pub struct Sizes {
     pub jobs: u32,
 }
 
-/// The judgements 2 to 8, 10 and 11.
+/// The judgements of the fields, 10 and 11.
 pub fn sizes(s: &Memory) -> Result<Sizes, Refusal> {
     judge(s)?;
-    let tasks = s.tasks[..s.count as usize].to_vec();
+    let tasks = s.tasks().to_vec();
     let hyperperiod = hyperperiod(&tasks).ok_or(10)?;
     let jobs: u32 = tasks.iter().map(|t| hyperperiod / t.period).sum();
     if jobs > 8_192 {

@@ -1,15 +1,15 @@
 //! Requests that are always made of the probe: document 01's sheets, both ends of each range, every place where bytes may end, each
 //! refusal alone, at the first and at the last place where it can occur, and beside another, tables and buffers that are too short by
-//! one, exact and longer, sheets for which only the quick bound without a table is answered, and every call on every sample and on
-//! every bad field in memory.
+//! one, exact and longer, sheets for which only the quick bound without a table is answered, every chain by its number and numbers of
+//! none, conversions, and every call on every sample and on every bad field in memory.
 
 use crate::probe::{Call, Handed, Lent, Request};
 use crate::schedule::{responses, sizes};
-use crate::sheet::{encoded, memory, packed, raw_bits, read, unjudged, Memory, Task};
+use crate::sheet::{chain, encoded, marked_bits, memory, packed, raw_bits, read, suite, unjudged, Chain, Memory, Task};
 use Call::*;
 
 pub fn requests() -> Vec<Request> {
-    [numbers_and_bits(), readings(), sheets_in_memory(), tables(), chains(), without_a_table(), samples()].concat()
+    [numbers_and_bits(), readings(), sheets_in_memory(), tables(), chains(), without_a_table(), chain_numbers(), conversions(), samples()].concat()
 }
 
 // Parts of requests
@@ -69,7 +69,8 @@ fn numbers_and_bits() -> Vec<Request> {
 // Readings: what the bytes hold, and where they are accepted the judgement of the sheet and its bytes written again
 
 fn readings() -> Vec<Request> {
-    let bytes = [document(), ends_of_ranges(), where_bytes_end(), bad_fields().iter().map(unjudged).collect(), two_faults()].concat();
+    let bad: Vec<Vec<u8>> = bad_fields().iter().map(unjudged).collect();
+    let bytes = [document(), ends_of_ranges(), editions(), ends_of_suites(), where_bytes_end(), bad, two_faults()].concat();
     bytes.into_iter().flat_map(reading).collect()
 }
 
@@ -79,7 +80,7 @@ fn reading(bytes: Vec<u8>) -> Vec<Request> {
     let mut requests = vec![request(Read, [0; 3], sheet.clone(), nothing_lent())];
     if taken {
         requests.push(request(Judge, [0; 3], sheet.clone(), nothing_lent()));
-        requests.push(request(Write, [0; 3], sheet, buffer(100)));
+        requests.push(request(Write, [0; 3], sheet, buffer(180)));
     }
     requests
 }
@@ -89,9 +90,16 @@ fn tasks(n: u32) -> Vec<Task> {
     (0..n).map(|i| task(100_000 - 7 * i, 1 + i, if i == 0 { 255 } else { i as u8 - 1 })).collect()
 }
 
-/// The largest sheet: sixteen tasks and a chain of sixteen.
+/// The largest old sheet: sixteen tasks and a chain of sixteen.
 fn largest() -> (Vec<Task>, Vec<u8>) {
     (tasks(16), (0..16).map(|i| (i * 7 + 15) % 16).collect())
+}
+
+/// So many chains of all n tasks, each in an order of its own, the first under the least limit and the last under the greatest.
+fn full_suite(n: u8, chains: u8) -> Memory {
+    let entries = |c: u8| (0..n).map(|i| (i + c) % n).collect::<Vec<_>>();
+    let limit = |c: u8| if c + 1 == chains { 4_000_000 } else { 1_000 * u32::from(c) };
+    suite(&tasks(n.into()), &(0..chains).map(|c| chain(limit(c), &entries(c))).collect::<Vec<_>>())
 }
 
 fn document() -> Vec<Vec<u8>> {
@@ -111,7 +119,7 @@ fn document() -> Vec<Vec<u8>> {
 fn ends_of_ranges() -> Vec<Vec<u8>> {
     let one = |t: Task| encoded(&[t], &[0]);
     let mut sheets = Vec::new();
-    for n in [0, 1, 16, 17, 31] {
+    for n in [0, 1, 16, 17, 30] {
         sheets.push(packed(&raw_bits(n, &tasks(n.min(16)), 1, &[0])));
     }
     for period in [0, 1, 99_999, 100_000, 100_001, 131_071] {
@@ -141,13 +149,50 @@ fn ends_of_ranges() -> Vec<Vec<u8>> {
     sheets
 }
 
+/// Every edition that four bits can hold, on a sheet whose other fields are allowed, and every first five bits before the same.
+fn editions() -> Vec<Vec<u8>> {
+    let bits = |edition| marked_bits(edition, &full_suite(3, 2));
+    let marks = (0..32u32).map(|mark| packed(&format!("{mark:05b}{}", &bits(2)[5..])));
+    (0..16).map(|edition| packed(&bits(edition))).chain(marks).collect()
+}
+
+/// Both ends of the fields that old sheets do not have; eight chains of sixteen on sixteen tasks.
+fn ends_of_suites() -> Vec<Vec<u8>> {
+    let (least, most) = (full_suite(1, 1), full_suite(16, 8));
+    assert_eq!((12, 178), (unjudged(&least).len(), unjudged(&most).len()));
+    let mut sheets = vec![least, most];
+    sheets.extend((0..16).map(|suite| Memory { suite, ..full_suite(3, 8) }));
+    for limit in [0, 1, 1_000, 3_999_999, 4_000_000, 4_000_001, 4_194_303] {
+        for c in [0, 7] {
+            let mut s = full_suite(2, 8);
+            s.chains[c].limit = limit;
+            sheets.push(s);
+        }
+    }
+    // A chain may have an entry of another: 8 looks at its own alone.
+    sheets.push(suite(&tasks(2), &[chain(0, &[0, 1]), chain(0, &[1, 0]), chain(0, &[0]), chain(0, &[0])]));
+    sheets.push(suite(&tasks(2), &[chain(0, &[0, 1]), chain(0, &[1, 1])]));
+    sheets.iter().map(unjudged).collect()
+}
+
 fn where_bytes_end() -> Vec<Vec<u8>> {
     let (t, c) = largest();
     let long = encoded(&t, &c);
     assert_eq!(94, long.len());
-    let mut sheets: Vec<Vec<u8>> = (0..=long.len()).map(|n| long[..n].to_vec()).collect();
-    sheets.push([&long[..], &[0]].concat());
-    sheets.push([&long[..], &[0, 1]].concat());
+    let mut sheets: Vec<Vec<u8>> = Vec::new();
+    for (whole, least) in [(long, 0), (unjudged(&full_suite(3, 8)), 0), (unjudged(&full_suite(16, 8)), 170)] {
+        sheets.extend((least..=whole.len()).map(|n| whole[..n].to_vec()));
+        sheets.push([&whole[..], &[0]].concat());
+        sheets.push([&whole[..], &[0, 1]].concat());
+    }
+    // The largest sheet has six spare bits, this one seven.
+    for s in [full_suite(16, 8), full_suite(2, 1)] {
+        let bits = marked_bits(2, &s);
+        for at in bits.len()..bits.len().div_ceil(8) * 8 {
+            let wrong = packed(&(bits.clone() + &"0".repeat(at - bits.len()) + "1"));
+            sheets.extend([wrong.clone(), [wrong, vec![0]].concat()]);
+        }
+    }
     // Sheets with 0, 2, 4 and 6 spare bits: each of them set, alone and before a surplus byte.
     for (n, m) in [(1, 1), (2, 1), (2, 2), (3, 1), (3, 3), (4, 2), (16, 16)] {
         let chain: Vec<u8> = (0..m).collect();
@@ -163,7 +208,7 @@ fn where_bytes_end() -> Vec<Vec<u8>> {
     sheets
 }
 
-/// Each of 2 to 8 at the first place and at the last where it can occur, on sheets whose chain is as long as it can be.
+/// Each of 2 to 8 at the first place and at the last where it can occur, on sheets whose chains are as long as they can be.
 fn bad_fields() -> Vec<Memory> {
     let sheet = |n: u32, spoil: fn(&mut Memory)| {
         let mut s = memory(&tasks(n), &(0..n as u8).collect::<Vec<_>>());
@@ -179,15 +224,85 @@ fn bad_fields() -> Vec<Memory> {
         sheet(16, |s| s.tasks[15].budget = 100_000),
         sheet(2, |s| s.tasks[1].rank = s.tasks[0].rank),
         sheet(16, |s| s.tasks[15].rank = s.tasks[14].rank),
-        sheet(1, |s| s.length = 0),
-        sheet(16, |s| s.length = 17),
-        sheet(1, |s| s.chain[0] = 1),
-        sheet(15, |s| s.chain[14] = 15),
+        sheet(1, |s| s.chains[0].length = 0),
+        sheet(16, |s| s.chains[0].length = 17),
+        sheet(1, |s| s.chains[0].entries[0] = 1),
+        sheet(15, |s| s.chains[0].entries[14] = 15),
         // In memory alone: four bits would hold 0.
-        sheet(16, |s| s.chain[15] = 16),
-        sheet(2, |s| s.chain[1] = 0),
-        sheet(16, |s| s.chain[15] = 14),
+        sheet(16, |s| s.chains[0].entries[15] = 16),
+        sheet(2, |s| s.chains[0].entries[1] = 0),
+        sheet(16, |s| s.chains[0].entries[15] = 14),
     ]
+    .into_iter()
+    .chain(bad_suites())
+    .collect()
+}
+
+/// The same on sheets of the second edition, with 16, 17 and 13: the first place and the last, which is in the eighth of eight chains.
+fn bad_suites() -> Vec<Memory> {
+    let sheet = |n: u8, chains: u8, spoil: fn(&mut Memory)| {
+        let mut s = full_suite(n, chains);
+        spoil(&mut s);
+        s
+    };
+    vec![
+        sheet(1, 1, |s| s.edition = 0),
+        sheet(16, 8, |s| s.edition = 3),
+        // In memory alone: four bits would hold 2.
+        sheet(16, 8, |s| s.edition = 18),
+        sheet(16, 8, |s| s.edition = 255),
+        sheet(1, 1, |s| s.count = 0),
+        sheet(16, 8, |s| s.count = 17),
+        sheet(1, 1, |s| s.tasks[0].period = 0),
+        sheet(16, 8, |s| s.tasks[15].period = 100_001),
+        sheet(1, 1, |s| s.tasks[0].budget = 0),
+        sheet(16, 8, |s| s.tasks[15].budget = 100_000),
+        sheet(2, 1, |s| s.tasks[1].rank = s.tasks[0].rank),
+        sheet(16, 8, |s| s.tasks[15].rank = s.tasks[14].rank),
+        sheet(1, 1, |s| s.suite = 0),
+        sheet(16, 8, |s| s.suite = 9),
+        // In memory alone: four bits would hold 1.
+        sheet(16, 8, |s| s.suite = 17),
+        sheet(1, 1, |s| s.chains[0].limit = 4_000_001),
+        sheet(16, 8, |s| s.chains[7].limit = 4_000_001),
+        // In memory alone: 22 bits would hold 1,000.
+        sheet(16, 8, |s| s.chains[7].limit = 4_194_304 + 1_000),
+        sheet(1, 1, |s| s.chains[0].length = 0),
+        sheet(16, 8, |s| s.chains[7].length = 17),
+        sheet(1, 1, |s| s.chains[0].entries[0] = 1),
+        sheet(15, 8, |s| s.chains[7].entries[14] = 15),
+        sheet(16, 8, |s| s.chains[7].entries[15] = 16),
+        sheet(2, 1, |s| s.chains[0].entries[1] = s.chains[0].entries[0]),
+        sheet(16, 8, |s| s.chains[7].entries[15] = s.chains[7].entries[14]),
+    ]
+}
+
+/// Each fault of the fields from one on with the next in field order, on a sheet of two tasks and two chains: the first counts.
+fn neighbouring_faults() -> Vec<Memory> {
+    let faults: [fn(&mut Memory); 13] = [
+        |s| s.edition = 3,
+        |s| s.count = 17,
+        |s| s.tasks[0].period = 0,
+        |s| s.tasks[0].budget = 0,
+        |s| s.tasks[1].rank = s.tasks[0].rank,
+        |s| s.suite = 9,
+        |s| s.chains[0].limit = 4_000_001,
+        |s| s.chains[0].length = 3,
+        |s| s.chains[0].entries[0] = 2,
+        |s| s.chains[0].entries[1] = s.chains[0].entries[0],
+        |s| s.chains[1].limit = 4_000_001,
+        |s| s.chains[1].length = 0,
+        |s| s.chains[1].entries[1] = s.chains[1].entries[0],
+    ];
+    let mut sheets = Vec::new();
+    for pair in faults.windows(2) {
+        let mut s = full_suite(2, 2);
+        pair[1](&mut s);
+        sheets.push(s);
+        pair[0](&mut s);
+        sheets.push(s);
+    }
+    sheets
 }
 
 /// Two faults on one sheet: the field that comes first counts, and in one field the end of the bytes.
@@ -206,13 +321,24 @@ fn two_faults() -> Vec<Vec<u8>> {
         packed(&raw_bits(3, &tasks(3), 3, &[3, 3, 3])),
         packed(&raw_bits(3, &tasks(3), 3, &[1, 1, 3])),
         packed(&(raw_bits(2, &tasks(2), 2, &[1, 1]) + "1")),
+        packed(&(marked_bits(2, &suite(&tasks(2), &[chain(0, &[1, 1])])) + "1")),
         cut(raw_bits(1, &[task(131_071, 1, 1)], 1, &[0]), 2),
         cut(raw_bits(1, &[task(131_071, 1, 1)], 1, &[0]), 3),
         cut(raw_bits(1, &[task(5, 9, 1)], 1, &[0]), 4),
         cut(raw_bits(1, &[task(5, 9, 1)], 1, &[0]), 5),
         cut(same_ranks(), 11),
         cut(same_ranks(), 12),
+        // The mark alone; an edition that is none; a chain count that is none; a limit that is over 4,000,000 as far as it goes.
+        cut(marked_bits(3, &full_suite(1, 1)), 1),
+        cut(marked_bits(3, &full_suite(1, 1)), 2),
+        cut(marked_bits(2, &Memory { suite: 15, ..full_suite(1, 1) }), 7),
+        cut(marked_bits(2, &Memory { suite: 15, ..full_suite(1, 1) }), 8),
+        cut(marked_bits(2, &suite(&tasks(1), &[chain(4_194_303, &[0])])), 10),
+        cut(marked_bits(2, &suite(&tasks(1), &[chain(4_194_303, &[0])])), 11),
     ]
+    .into_iter()
+    .chain(neighbouring_faults().iter().map(unjudged))
+    .collect()
 }
 
 // Sheets in memory, judged and written
@@ -222,19 +348,36 @@ fn sheets_in_memory() -> Vec<Request> {
     let good = memory(&t, &c);
     let small = memory(&[task(5, 5, 1)], &[0]);
     // Unused places do not matter.
-    let mut noisy = Memory { tasks: [task(u32::MAX, 0, 1); 16], chain: [200; 16], ..small };
+    let unused = Chain { limit: u32::MAX, length: 200, entries: [200; 16] };
+    let mut noisy = Memory { tasks: [task(u32::MAX, 0, 1); 16], suite: 200, chains: [unused; 8], ..small };
     noisy.tasks[0] = small.tasks[0];
-    noisy.chain[0] = 0;
-    let mut sheets = vec![(Memory::default(), 100), (noisy, 7), (Memory { count: 15, length: 15, ..good }, 100)];
+    noisy.chains[0].length = 1;
+    noisy.chains[0].entries[0] = 0;
+    let with_length = |s: Memory, length| {
+        let mut s = s;
+        s.chains[0].length = length;
+        s
+    };
+    // The same of a sheet with one chain of its own limit: the others are unused.
+    let mut noisy_suite = Memory { edition: 2, suite: 1, ..noisy };
+    noisy_suite.chains[0].limit = 4_000_000;
+    let mut sheets = vec![(Memory::default(), 100), (noisy, 7), (noisy_suite, 12), (with_length(Memory { count: 15, ..good }, 15), 100)];
     sheets.extend([0, 93, 94, 95, 100].map(|room| (good, room)));
+    sheets.extend([0, 94, 177, 178, 179, 200].map(|room| (full_suite(16, 8), room)));
+    sheets.extend([0, 7, 11, 12, 13].map(|room| (full_suite(1, 1), room)));
+    sheets.extend(neighbouring_faults().into_iter().flat_map(|s| [(s, 0), (s, 178)]));
+    for edition in [0, 1, 2, 3, 4, 15, 16, 17, 18, 31, 255] {
+        sheets.push((Memory { edition, ..full_suite(3, 3) }, 178));
+        sheets.push((Memory { edition, ..small }, 0));
+    }
     sheets.extend([0, 6, 7, 8, 100].map(|room| (small, room)));
     for count in [0, 17, 255] {
         sheets.push((Memory { count, ..good }, 100));
-        sheets.push((Memory { count, length: 0, ..small }, 0));
+        sheets.push((with_length(Memory { count, ..small }, 0), 0));
     }
     for length in [0, 17, 255] {
-        sheets.push((Memory { length, ..good }, 100));
-        sheets.push((Memory { length, ..small }, 0));
+        sheets.push((with_length(good, length), 100));
+        sheets.push((with_length(small, length), 0));
     }
     for period in [0, 1, 100_000, 100_001, 131_072, 131_077, u32::MAX] {
         for budget in [0, 1, 100_000, 100_001, 131_073, u32::MAX] {
@@ -253,7 +396,7 @@ fn sheets_in_memory() -> Vec<Request> {
     for entry in [0, 15, 16, 200, 255] {
         for at in [0, 15] {
             let mut s = good;
-            s.chain[at] = entry;
+            s.chains[0].entries[at] = entry;
             sheets.extend([94, 93].map(|room| (s, room)));
         }
     }
@@ -297,11 +440,10 @@ fn tables() -> Vec<Request> {
         (pair(1_000, 999), 2_048, 5),
         (pair(1_000, 999), 1_999, 5),
         (pair(1_000, 999), 1_998, 5),
-        (pair(1_000, 1_001), 2_048, 5),
-        (pair(2, 16_382), 8_200, 5),
+        (pair(1_000, 1_001), 20, 5),
         (pair(2, 16_382), 8_192, 5),
         (pair(2, 16_382), 8_191, 5),
-        (pair(2, 16_384), 8_200, 5),
+        (pair(2, 16_384), 20, 5),
         (on_time, 600, 4),
         (sixteen_late, 600, 4),
     ];
@@ -329,22 +471,21 @@ fn chains() -> Vec<Request> {
         (Delay, 0, radio(3), 20),
         (Delay, 20, radio(3), 20),
         (Delay, 40, radio(3), 18),
-        (Figures, 0, radio(3), 20),
-        (Figures, 0, radio(3), 18),
         (Delay, 0, radio(2), 20),
         (Delay, 20, radio(2), 20),
         (Delay, 40, radio(2), 20),
-        (Figures, 0, radio(2), 18),
-        (Figures, 0, trio, 20),
-        (Figures, 0, trio, 7),
         (Delay, 0, quartet, 20),
         (Delay, 3, quartet, 20),
+        (Delay, 0, ladder(100_000), 16),
+        (Figures, 0, radio(3), 20),
+        (Figures, 0, radio(2), 18),
+        (Figures, 0, trio, 7),
+        (Figures, 0, trio, 20),
         (Figures, 0, quartet, 20),
         (Figures, 0, lone, 1),
         (Figures, 0, lone, 20),
         (Figures, 0, first_of(1), 20),
         (Figures, 0, first_of(100_000), 20),
-        (Delay, 0, ladder(100_000), 16),
         (Figures, 0, ladder(100_000), 20),
         (Figures, 0, ladder(16), 20),
     ];
@@ -397,7 +538,7 @@ fn chains() -> Vec<Request> {
         (Figures, 0, late, 20),
     ];
     let asked = figures.into_iter().chain(margins).chain(refusals);
-    asked.map(|(call, number, s, room)| request(call, [number, 0, 0], Handed::Memory(s), table(room, &[7]))).collect()
+    asked.map(|(call, number, s, room)| request(call, [number, 1, 0], Handed::Memory(s), table(room, &[7]))).collect()
 }
 
 // The quick bound without a table: odd periods, values that just fit, long climbs, the ends of ranges, and the order of its refusals
@@ -473,7 +614,76 @@ fn without_a_table() -> Vec<Request> {
         sheet(&[(2, 2, 3), (10, 6, 1), (3, 1, 2)], &[1]),
         sheet(&[(1, 1, 3), (1_000, 1, 2), (1_001, 1, 1)], &[0, 1, 2]),
     ];
-    sheets.into_iter().map(|s| request(QuickBound, [0; 3], Handed::Memory(s), nothing_lent())).collect()
+    sheets.into_iter().map(|s| request(QuickBound, [0, 1, 0], Handed::Memory(s), nothing_lent())).collect()
+}
+
+// Several chains: each by its number, numbers that the sheet lacks, and 17 beside the refusals before and after it
+
+/// Radio's tasks with its two chains and two more, the limits of which are the worst of each.
+fn radio_suite() -> Memory {
+    let radio = [task(20, 5, 1), task(6, 1, 3), task(12, 3, 2)];
+    suite(&radio, &[chain(39, &[0, 1, 2]), chain(32, &[0, 1]), chain(0, &[2, 0]), chain(4_000_000, &[1])])
+}
+
+fn chain_numbers() -> Vec<Request> {
+    let late = |chains: &[Chain]| suite(&[task(2, 1, 2), task(3, 2, 1)], chains);
+    let both = [chain(7, &[0]), chain(8, &[1, 0])];
+    let long = suite(&[task(1_000, 1, 2), task(1_001, 1, 1)], &both);
+    let many = suite(&[task(2, 1, 2), task(16_384, 1, 1)], &both);
+    let old = memory(&[task(20, 5, 1), task(6, 1, 3), task(12, 3, 2)], &[0, 1, 2]);
+    // An old sheet has chain 1 alone, whatever its count says.
+    let counted = Memory { suite: 8, ..old };
+    let bad = Memory { suite: 9, ..radio_suite() };
+    let eight = suite(&[task(8, 1, 1), task(2, 1, 3), task(4, 1, 2)], &[0, 1, 2, 3, 4, 5, 6, 7].map(|c| chain(c, &[(c % 3) as u8])));
+    let sheets = [radio_suite(), old, counted, bad, eight, late(&both), long, many, full_suite(16, 8)];
+    let numbers = |s: &Memory| {
+        let count = s.chain_count();
+        let mut numbers = vec![0, 1, 2, count, count.wrapping_add(1), 128, 254, 255];
+        numbers.extend(1..=count.min(9));
+        numbers.sort();
+        numbers.dedup();
+        numbers
+    };
+    let mut requests = Vec::new();
+    for s in sheets {
+        for number in numbers(&s) {
+            let asked = |call, first, lent| request(call, [first, number.into(), 0], Handed::Memory(s), lent);
+            requests.push(asked(Numbered, 0, nothing_lent()));
+            requests.push(asked(QuickBound, 0, nothing_lent()));
+            // A release and a limit that are allowed and one that is not; a table that is large enough and one that is not.
+            let calls = [(Delay, 0, 20), (Delay, 12, 20), (Delay, 1, 4), (Margin, 39, 20), (Margin, 4_000_001, 4), (DefaultMargin, 0, 20)];
+            requests.extend(calls.map(|(call, first, room)| asked(call, first, table(room, &[7]))));
+            requests.extend([20, 4].map(|room| asked(Figures, 0, table(room, &[7]))));
+        }
+        requests.extend([20, 4].map(|room| request(Suite, [0; 3], Handed::Memory(s), table(room, &[7]))));
+    }
+    requests
+}
+
+// Conversions there and back: unchanged sheets, 18 for each of its grounds and for both, fields before it, and unused places
+
+fn conversions() -> Vec<Request> {
+    let radio = [task(20, 5, 1), task(6, 1, 3), task(12, 3, 2)];
+    let old = memory(&radio, &[0, 1, 2]);
+    let one = |limit| suite(&radio, &[chain(limit, &[0, 1, 2])]);
+    let two = |limit| suite(&radio, &[chain(limit, &[0, 1, 2]), chain(1_000, &[1])]);
+    let noise = Chain { limit: 77, length: 3, entries: [9; 16] };
+    let mut noisy = Memory { suite: 5, chains: [noise; 8], ..old };
+    noisy.chains[0] = Chain { limit: 55, ..old.chains[0] };
+    noisy.tasks[9] = task(1, 2, 3);
+    let noisy_suite = Memory { edition: 2, suite: 1, chains: [Chain { limit: 1_000, ..old.chains[0] }, noise, noise, noise, noise, noise, noise, noise], ..noisy };
+    let mut sheets = vec![old, noisy, noisy_suite, one(1_000), one(999), one(1_001), one(0), one(4_000_000), one(4_000_001), two(1_000), two(999)];
+    sheets.extend([full_suite(16, 8), full_suite(16, 1), Memory::default()]);
+    sheets.extend([0, 3, 15, 255].map(|edition| Memory { edition, ..one(1_000) }));
+    sheets.extend([0, 9, 255].map(|suite| Memory { suite, ..two(999) }));
+    // H and J over their limits, and a late task, are no matter here.
+    sheets.push(memory(&[task(1, 1, 3), task(1_000, 1, 2), task(1_001, 1, 1)], &[0, 1, 2]));
+    sheets.push(suite(&[task(2, 1, 2), task(3, 2, 1)], &[chain(1_000, &[1])]));
+    let mut repeated = two(999);
+    repeated.chains[1].length = 2;
+    repeated.chains[1].entries[1] = 1;
+    sheets.push(repeated);
+    sheets.into_iter().flat_map(|s| [ToSecond, ToFirst].map(|call| request(call, [0; 3], Handed::Memory(s), nothing_lent()))).collect()
 }
 
 // Every call on every sample, and on sheets in memory
@@ -485,8 +695,8 @@ fn samples() -> Vec<Request> {
         .filter(|path| path.extension().map_or(false, |x| x == "sheet"))
         .collect();
     names.sort();
-    let radio = sheet(&[(20, 5, 1), (6, 1, 3), (12, 3, 2)], &[2, 1]);
-    let noisy = Memory { chain: [2, 1, 9, 9, 9, 9, 9, 9, 9, 9, 9, 9, 9, 9, 9, 255], ..radio };
+    let mut noisy = sheet(&[(20, 5, 1), (6, 1, 3), (12, 3, 2)], &[2, 1]);
+    noisy.chains[0].entries = [2, 1, 9, 9, 9, 9, 9, 9, 9, 9, 9, 9, 9, 9, 9, 255];
     let bytes = names.iter().map(|path| Handed::Bytes(std::fs::read(path).unwrap()));
     let in_memory = [noisy, Memory::default()].into_iter().chain(bad_fields());
     let sheets = bytes.chain(in_memory.map(Handed::Memory));
@@ -496,13 +706,13 @@ fn samples() -> Vec<Request> {
 /// The table has three entries more than are needed, or twenty where none are.
 fn every_call(sheet: &Handed) -> Vec<Request> {
     let jobs = sheet.memory().and_then(|s| sizes(&s).ok()).map_or(17, |z| z.jobs);
-    let with = |call, number, lent| request(call, [number, 0, 0], sheet.clone(), lent);
+    let with = |call, number, lent| request(call, [number, 1, 0], sheet.clone(), lent);
     let with_table = |call, number| with(call, number, table(jobs as usize + 3, &[7, 8, 9]));
     let mut requests = match sheet {
         Handed::Bytes(_) => vec![with(Read, 0, nothing_lent())],
         Handed::Memory(_) => vec![],
     };
-    requests.extend([with(Judge, 0, nothing_lent()), with(Write, 0, buffer(94)), with(Sizes, 0, nothing_lent())]);
+    requests.extend([with(Judge, 0, nothing_lent()), with(Write, 0, buffer(178)), with(Sizes, 0, nothing_lent())]);
     requests.extend([
         with_table(Responses, 0),
         with_table(TaskResponses, 0),
@@ -511,7 +721,10 @@ fn every_call(sheet: &Handed) -> Vec<Request> {
         with_table(Margin, 8),
         with_table(DefaultMargin, 0),
         with_table(Figures, 0),
+        with_table(Suite, 0),
         with(QuickBound, 0, nothing_lent()),
+        with(ToSecond, 0, nothing_lent()),
+        with(ToFirst, 0, nothing_lent()),
     ]);
     if let Some(Ok(worked)) = sheet.memory().map(|s| responses(&s, &mut vec![0; jobs as usize])) {
         requests.push(request(Greatest, [0; 3], no_sheet(), table(jobs as usize, &worked.responses.concat())));

@@ -3,7 +3,7 @@
 use model::chain::{delay, figures, margin};
 use model::report::report;
 use model::schedule::{night, responses};
-use model::sheet::{encoded, judge, memory, read, unjudged, write, Memory, Task};
+use model::sheet::{encoded, judge, memory, read, unjudged, write, Chain, Memory, Task};
 use model::Refusal;
 
 fn sheet(tasks: &[(u32, u32, u8)], chain: &[u8]) -> Memory {
@@ -15,16 +15,16 @@ const TRIO: &[(u32, u32, u8)] = &[(8, 1, 1), (2, 1, 3), (4, 1, 2)];
 const RADIO: &[(u32, u32, u8)] = &[(20, 5, 1), (6, 1, 3), (12, 3, 2)];
 const QUARTET: &[(u32, u32, u8)] = &[(6, 1, 4), (6, 1, 3), (3, 1, 2), (6, 1, 1)];
 
-/// What counts from a release: the sampling figure, the smallest release that gives it, and its bound.
-fn from_a_release(s: &Memory) -> (u32, u32, u32) {
-    let (_, f) = figures(s, &mut [0; 8_192]).unwrap();
-    (f.sampling, f.release, f.sampling_bound)
-}
-
 /// What counts from a flag: worst, bound, and the margin under the default limit.
 fn from_a_flag(s: &Memory) -> (u32, u32, i64) {
-    let (_, f) = figures(s, &mut [0; 8_192]).unwrap();
+    let (_, f) = figures(s, 1, &mut [0; 8_192]).unwrap();
     (f.worst, f.bound, f.margin)
+}
+
+/// What counts from a release: the sampling figure, its release and its bound.
+fn from_a_release(s: &Memory, table: &mut [u32]) -> (u32, u32, u32) {
+    let (_, f) = figures(s, 1, table).unwrap();
+    (f.sampling, f.release, f.sampling_bound)
 }
 
 #[test]
@@ -34,7 +34,7 @@ fn trio() {
     let w = responses(&s, &mut table).unwrap();
     assert_eq!((8, 7, 1), (w.hyperperiod, w.jobs, w.idle));
     assert_eq!([4, 1, 1, 1, 1, 2, 2], table);
-    assert_eq!((6, 0, 8), from_a_release(&s));
+    assert_eq!((6, 0, 8), from_a_release(&s, &mut table));
     // "Document 002 prints 14 and 16", as strict limits: in whole ticks one less each.
     assert_eq!((14 - 1, 16 - 1, 987), from_a_flag(&s));
 }
@@ -46,13 +46,13 @@ fn radio() {
     let w = responses(&s, &mut table).unwrap();
     assert_eq!((60, 18, 20), (w.hyperperiod, w.jobs, w.idle));
     assert_eq!([10, 9, 6, 1, 1, 1, 1, 1, 1, 1, 1, 1, 1, 4, 4, 4, 4, 4], table);
-    assert_eq!([Ok(16), Ok(20), Ok(12)], [0, 20, 40].map(|r| delay(&s, r, &mut table)));
-    assert_eq!((20, 20, 24), from_a_release(&s));
+    assert_eq!([Ok(16), Ok(20), Ok(12)], [0, 20, 40].map(|r| delay(&s, 1, r, &mut table)));
+    assert_eq!((20, 20, 24), from_a_release(&s, &mut table));
     assert_eq!((39, 43, 961), from_a_flag(&s));
-    assert_eq!([Ok(961), Ok(0), Ok(-39)], [1_000, 39, 0].map(|limit| margin(&s, limit, &mut table)));
+    assert_eq!([Ok(961), Ok(0), Ok(-39)], [1_000, 39, 0].map(|limit| margin(&s, 1, limit, &mut table)));
     let short = sheet(RADIO, &[0, 1]);
-    assert_eq!([Ok(13), Ok(11), Ok(9)], [0, 20, 40].map(|r| delay(&short, r, &mut table)));
-    assert_eq!((13, 0, 15), from_a_release(&short));
+    assert_eq!([Ok(13), Ok(11), Ok(9)], [0, 20, 40].map(|r| delay(&short, 1, r, &mut table)));
+    assert_eq!((13, 0, 15), from_a_release(&short, &mut table));
     assert_eq!((13 + 19, 15 + 19, 968), from_a_flag(&short));
 }
 
@@ -61,7 +61,7 @@ fn radio() {
 fn first_periods() {
     for (period, worst) in [(1, 1), (2, 2), (99_999, 99_999), (100_000, 100_000)] {
         let s = sheet(&[(period, 1, 2)], &[0]);
-        assert_eq!((1, 0, 1), from_a_release(&s));
+        assert_eq!((1, 0, 1), from_a_release(&s, &mut [0]));
         assert_eq!((worst, worst, 1_000 - i64::from(worst)), from_a_flag(&s));
     }
     // The first task of the chain, wherever it stands on the sheet and whatever comes after it.
@@ -73,7 +73,8 @@ fn first_periods() {
 #[test]
 fn quartet() {
     let s = sheet(QUARTET, &[2, 3]);
-    assert_eq!((8, 3, 8), from_a_release(&s));
+    let mut table = [0; 5];
+    assert_eq!((8, 3, 8), from_a_release(&s, &mut table));
     // Its one schedule: the job of task 2 released at 0 writes at 3, task 3 starts then and finishes at 5; the one released at 3
     // writes at 4, task 3 starts at 4 and finishes at 5.
     let n = night(&s.tasks[..4], 6, |_, _| 1);
@@ -85,7 +86,7 @@ fn quartet() {
 fn the_others() {
     let lone = sheet(&[(5, 5, 1)], &[0]);
     let mut table = [1; 9_000];
-    assert_eq!((5, 0, 5), from_a_release(&lone));
+    assert_eq!((5, 0, 5), from_a_release(&lone, &mut table));
     assert_eq!(vec![0x08, 0x00, 0x14, 0x00, 0x0A, 0x02, 0x10], encoded(&lone.tasks[..1], &[0]));
     let late = responses(&sheet(&[(2, 1, 2), (3, 2, 1)], &[0]), &mut table).err().unwrap();
     assert_eq!((15, Some(1)), (late.number, late.value));
@@ -146,9 +147,10 @@ fn refused_in_memory(s: &Memory, number: u8, bit: usize) {
 /// "count at 0, T of task i at 5 + 42·i, C at 22 + 42·i, rank at 39 + 42·i"
 #[test]
 fn bits_of_tasks() {
-    for count in [0, 17, 31] {
+    for count in [0, 17, 30] {
         refused(&Memory { count, ..largest() }, 2, 0);
     }
+    refused_in_memory(&Memory { count: 31, ..largest() }, 2, 0);
     for i in 0..16 {
         let with = |period, budget, rank| {
             let mut s = largest();
@@ -172,14 +174,18 @@ fn bits_of_tasks() {
 #[test]
 fn bits_of_chains() {
     for n in 1..=16 {
-        let some = Memory { count: n as u8, length: n as u8, ..largest() };
+        let of_length = |length| {
+            let mut s = Memory { count: n as u8, ..largest() };
+            s.chains[0] = Chain { length, ..s.chains[0] };
+            s
+        };
         for length in [0, n as u8 + 1, 31] {
-            refused(&Memory { length, ..some }, 6, 5 + 42 * n);
+            refused(&of_length(length), 6, 5 + 42 * n);
         }
         for j in 0..n {
             let with = |entry: usize| {
-                let mut s = some;
-                s.chain[j] = entry as u8;
+                let mut s = of_length(n as u8);
+                s.chains[0].entries[j] = entry as u8;
                 s
             };
             if n < 16 {
@@ -226,10 +232,10 @@ fn bits_after_the_last_field() {
     }
 }
 
-/// Where README.md's table says that a field begins, with i, j, n and m as given.
-fn place_in_readme(field: &str, letters: &[(&str, usize)]) -> usize {
+/// Where a table of README.md says that a field begins, with the letters as given.
+fn place_in(table: &str, field: &str, letters: &[(&str, usize)]) -> usize {
     let page = include_str!("../../README.md");
-    let (_, section) = page.split_once("\n### Which field begins at a bit\n").expect("the section is there");
+    let (_, section) = page.split_once(&format!("\n| {table} | begins at bit |")).expect("the table is there");
     let row = section.lines().find(|line| line.starts_with(&format!("| {field} | "))).expect(field);
     let factor = |text: &str| match letters.iter().find(|(letter, _)| *letter == text) {
         Some((_, value)) => *value,
@@ -239,8 +245,34 @@ fn place_in_readme(field: &str, letters: &[(&str, usize)]) -> usize {
     terms.map(|term| term.split('·').map(factor).product::<usize>()).sum()
 }
 
+/// The places of the second edition: chains are as long as they can be, so each takes 27 + 4·n bits.
+#[test]
+fn readme_says_the_same_places_in_edition_2() {
+    let place = |field, letters: &[(&str, usize)]| place_in("field in edition 2", field, letters);
+    assert_eq!([0, 5, 9], ["mark", "edition", "number of tasks n"].map(|field| place(field, &[])));
+    for i in 0..16 {
+        assert_eq!(14 + 42 * i, place("period T of task i", &[("i", i)]));
+        assert_eq!(31 + 42 * i, place("budget C of task i", &[("i", i)]));
+        assert_eq!(48 + 42 * i, place("rank of task i", &[("i", i)]));
+    }
+    for n in 1..=16 {
+        assert_eq!(14 + 42 * n, place("number of chains", &[("n", n)]));
+        let mut p = 18 + 42 * n;
+        for _ in 0..8 {
+            assert_eq!(p, place("limit of a chain", &[("p", p)]));
+            assert_eq!(p + 22, place("length m of a chain", &[("p", p)]));
+            for j in 0..n {
+                assert_eq!(p + 27 + 4 * j, place("entry j of a chain", &[("p", p), ("j", j)]));
+            }
+            p = place("the next chain, or the bits that fill the last byte", &[("p", p), ("m", n)]);
+        }
+        assert_eq!(18 + 42 * n + 8 * (27 + 4 * n), p);
+    }
+}
+
 #[test]
 fn readme_says_the_same_places() {
+    let place_in_readme = |field, letters: &[(&str, usize)]| place_in("field", field, letters);
     assert_eq!(0, place_in_readme("number of tasks n", &[]));
     for i in 0..16 {
         assert_eq!(5 + 42 * i, place_in_readme("period T of task i", &[("i", i)]));

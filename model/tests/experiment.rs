@@ -3,7 +3,7 @@
 
 use model::chain::figures;
 use model::experiment::{experiment, experiment_with_bounds, first_from, Claim, Followed};
-use model::generate::{odd_sheet, sheet};
+use model::generate::{odd_sheet, sheet, some_chain};
 use model::random::Random;
 use model::recurrence::quick;
 use model::schedule::night;
@@ -19,7 +19,7 @@ const RADIO: &[(u32, u32, u8)] = &[(20, 5, 1), (6, 1, 3), (12, 3, 2)];
 const TRUE: Claim = Claim { sampling: 13, release: 0, sampling_bound: 15, worst: 32, bound: 34 };
 
 fn radio(claim: Claim) -> Result<Followed, String> {
-    experiment(&memory(&tasks(RADIO), &[0, 1]), claim, &mut Random::new(1))
+    experiment(&memory(&tasks(RADIO), &[0, 1]), 1, claim, &mut Random::new(1))
 }
 
 fn trouble(claim: Claim) -> String {
@@ -68,8 +68,8 @@ fn the_job_that_takes_a_flag() {
     assert_eq!([0, 0, 1, 1, 2, 2, 3, 3], [0, 4, 5, 20, 21, 40, 41, 64].map(|raised| first_from(&night, 0, raised)));
 }
 
-fn claim(s: &Memory) -> Option<Claim> {
-    let (_, f) = figures(s, &mut [0; 8_192]).ok()?;
+fn claim(s: &Memory, chain: u8) -> Option<Claim> {
+    let (_, f) = figures(s, chain, &mut [0; 8_192]).ok()?;
     Some(Claim { sampling: f.sampling, release: f.release, sampling_bound: f.sampling_bound, worst: f.worst, bound: f.bound })
 }
 
@@ -78,7 +78,7 @@ fn claim(s: &Memory) -> Option<Claim> {
 fn shortest_and_longest_first_period() {
     for period in [1, 2, 100_000] {
         let s = memory(&tasks(&[(period, 1, 1)]), &[0]);
-        let followed = experiment(&s, claim(&s).unwrap(), &mut Random::new(1)).unwrap();
+        let followed = experiment(&s, 1, claim(&s, 1).unwrap(), &mut Random::new(1)).unwrap();
         assert_eq!((5 * u64::from(period), 5), (followed.flags, followed.latest));
     }
 }
@@ -89,8 +89,9 @@ fn figures_of_the_model() {
     let mut sum = Followed::default();
     for _ in 0..600 {
         let s = sheet(&mut random);
-        if let Some(claim) = claim(&s) {
-            sum.add(&experiment(&s, claim, &mut random).unwrap_or_else(|trouble| panic!("{claim:?} of {s:?}: {trouble}")));
+        let chain = some_chain(&mut random, &s);
+        if let Some(claim) = claim(&s, chain) {
+            sum.add(&experiment(&s, chain, claim, &mut random).unwrap_or_else(|trouble| panic!("{claim:?} of {s:?}: {trouble}")));
         }
     }
     assert!(sum.flags > 1_000_000 && sum.latest > 0 && sum.rising > 0);
@@ -99,7 +100,7 @@ fn figures_of_the_model() {
 /// Bounds are held to the schedules as figures are: Radio's sampling figure with chain 0 1 is 13, its worst 32.
 #[test]
 fn bounds_too_low() {
-    let bounds = |sampling, bound| experiment_with_bounds(&memory(&tasks(RADIO), &[0, 1]), sampling, bound, &mut Random::new(1));
+    let bounds = |sampling, bound| experiment_with_bounds(&memory(&tasks(RADIO), &[0, 1]), 1, sampling, bound, &mut Random::new(1));
     let followed = bounds(TRUE.sampling_bound, TRUE.bound).unwrap();
     assert_eq!((5 * 3, 5 * 60), (followed.paths, followed.flags));
     assert!(bounds(12, TRUE.bound).err().unwrap().contains("Full demands: the reading released at 0 is not there at 12"));
@@ -113,8 +114,9 @@ fn quick_bounds_of_sheets_by_chance() {
     for _ in 0..200 {
         let s = odd_sheet(&mut random);
         let short = s.tasks.iter().all(|t| t.period <= 1_100);
-        if let (true, Ok(q)) = (short, quick(&s)) {
-            experiment_with_bounds(&s, q.sampling_bound, q.bound, &mut random).unwrap();
+        let chain = some_chain(&mut random, &s);
+        if let (true, Ok(q)) = (short, quick(&s, chain)) {
+            experiment_with_bounds(&s, chain, q.sampling_bound, q.bound, &mut random).unwrap();
         }
     }
 }

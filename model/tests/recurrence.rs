@@ -1,7 +1,7 @@
 //! The recurrence of document 02 against figures worked out by hand, against its own search, and against schedules.
 
 use model::chain::figures;
-use model::generate::{odd_sheet, sheet};
+use model::generate::{odd_sheet, sheet, some_chain};
 use model::random::Random;
 use model::recurrence::{climb, quick, response, Quick};
 use model::report::{bound, report};
@@ -14,7 +14,7 @@ fn tasks(list: &[(u32, u32, u8)]) -> Vec<Task> {
 }
 
 fn of(list: &[(u32, u32, u8)], chain: &[u8]) -> Result<Quick, Refusal> {
-    quick(&memory(&tasks(list), chain))
+    quick(&memory(&tasks(list), chain), 1)
 }
 
 fn answered(responses: &[u32], sampling_bound: u32, bound: u32) -> Result<Quick, Refusal> {
@@ -87,7 +87,7 @@ fn the_search_finds_the_least() {
     let mut random = Random::new(4);
     for _ in 0..2_000 {
         let s = odd_sheet(&mut random);
-        let tasks = &s.tasks[..s.count as usize];
+        let tasks = s.tasks();
         for i in 0..tasks.len() {
             let values = climb(tasks, i);
             assert!(values.windows(2).all(|pair| pair[0] < pair[1]));
@@ -104,18 +104,19 @@ fn with_and_without_a_table() {
     let (mut accepted, mut refused) = (0, 0);
     while accepted < 1_000 || refused < 200 {
         let s = sheet(&mut random);
-        if hyperperiod(&s.tasks[..s.count as usize]).map_or(true, |h| h > 3_000) {
+        if hyperperiod(s.tasks()).map_or(true, |h| h > 3_000) {
             continue;
         }
-        match figures(&s, &mut [0; 8_192]) {
+        let chain = some_chain(&mut random, &s);
+        match figures(&s, chain, &mut [0; 8_192]) {
             Ok((w, f)) => {
                 let responses = w.greatest_responses();
-                assert_eq!(Ok(Quick { responses, sampling_bound: f.sampling_bound, bound: f.bound }), quick(&s), "{s:?}");
+                assert_eq!(Ok(Quick { responses, sampling_bound: f.sampling_bound, bound: f.bound }), quick(&s, chain), "{s:?}");
                 accepted += 1;
             }
             Err(r) => {
                 assert_eq!(15, r.number);
-                assert_eq!(Err(r), quick(&s), "{s:?}");
+                assert_eq!(Err(r), quick(&s, chain), "{s:?}");
                 refused += 1;
             }
         }
@@ -129,7 +130,7 @@ fn beyond_the_hyperperiod() {
     let mut random = Random::new(6);
     for _ in 0..300 {
         let s = odd_sheet(&mut random);
-        let tasks = s.tasks[..s.count as usize].to_vec();
+        let tasks = s.tasks().to_vec();
         let greatest = tasks.iter().map(|t| t.period).max().unwrap();
         if greatest > 5_000 {
             continue;
@@ -151,10 +152,10 @@ fn beyond_the_hyperperiod() {
 fn odd_sheets_are_of_every_kind() {
     let mut random = Random::new(7);
     let sheets: Vec<Memory> = (0..2_000).map(|_| odd_sheet(&mut random)).collect();
-    let tasks = |s: &Memory| s.tasks[..s.count as usize].to_vec();
+    let tasks = |s: &Memory| s.tasks().to_vec();
     let fits = |s: &Memory| (0..s.count as usize).any(|i| response(&tasks(s), i) == Some(s.tasks[i].period));
     let count = |test: &dyn Fn(&Memory) -> bool| sheets.iter().filter(|s| test(s)).count();
-    assert!(count(&|s| quick(s).is_ok() && hyperperiod(&tasks(s)).is_none()) > 500);
-    assert!(count(&|s| quick(s).is_err() && hyperperiod(&tasks(s)).is_none()) > 100);
-    assert!(count(&|s| quick(s).is_ok() && s.count > 1 && fits(s)) > 50);
+    assert!(count(&|s| quick(s, 1).is_ok() && hyperperiod(&tasks(s)).is_none()) > 500);
+    assert!(count(&|s| quick(s, 1).is_err() && hyperperiod(&tasks(s)).is_none()) > 100);
+    assert!(count(&|s| quick(s, 1).is_ok() && s.count > 1 && fits(s)) > 50);
 }

@@ -1,5 +1,7 @@
--- The numbers of refusal: the least and the greatest that an answer may have, kept by each way to put judgements together.
-use mathlib.Core.Path.{_≡_, refl, sym}
+-- The numbers of refusal: the least and the greatest that an answer may have, those that it has only, and one that it never has, kept by
+-- each way to put judgements together.
+use mathlib.Core.Path.{_≡_, refl, sym, subst, _∙_}
+use mathlib.Core.Logic.{_≢_}
 use mathlib.Core.Bool.{Bool, true, false}
 use mathlib.Core.List.{List, [], _∷_}
 use Prim.Native.Nat.{ℕ, _≤_}
@@ -47,3 +49,59 @@ module _ {low high : ℕ} where
   unfolding first
   first-numbered [] n = given-numbered tt
   first-numbered (f ∷ fs) n = also-numbered (n f) (first-numbered fs n)
+
+-- ---- the numbers that an answer may have, by a property of them
+
+-- Where an answer is refused, P holds of its number.
+pub record Only {A : Type 0} (P : ℕ → Type 0) (a : Answer A) : Type 0 where
+  pub holds : {number : ℕ} {values : List ℕ} → a ≡ refused number values → P number
+
+module _ {A : Type 0} {P : ℕ → Type 0} where
+  pub given-only : (x : A) → Only P (given x)
+  given-only x = record { holds = λ e. refused-given (sym e) }
+
+  pub refused-only : (number : ℕ) (values : List ℕ) → P number → Only {A = A} P (refused number values)
+  refused-only number values p = record { holds = λ e. subst P (same e) p }
+    where
+      same : {n : ℕ} {vs : List ℕ} → _≡_ {A = Answer A} (refused number values) (refused n vs) → number ≡ n
+      same e = cc
+
+module _ {P : ℕ → Type 0} where
+  pub when-only : (b : Bool) (number : ℕ) → P number → Only P (when b number)
+  when-only true number p = refused-only number [] p
+  when-only false number p = given-only tt
+
+  pub after-only : {A B : Type 0} {a : Answer A} {next : A → Answer B} → Only P a → ((x : A) → Only P (next x)) → Only P (after a next)
+  after-only {a = given x} n m = m x
+  after-only {a = refused number values} n m = refused-only number values (n .holds refl)
+
+  pub also-only : {A : Type 0} {j : Judgement} {a : Answer A} → Only P j → Only P a → Only P (also j a)
+  also-only n m = after-only n (λ u. m)
+
+-- ---- a number that is never given
+
+-- Where an answer is refused, the number is another.
+pub record Never {A : Type 0} (n : ℕ) (a : Answer A) : Type 0 where
+  pub differs : {number : ℕ} {values : List ℕ} → a ≡ refused number values → number ≢ n
+
+module _ {A : Type 0} {n : ℕ} where
+  pub given-never : (x : A) → Never n (given x)
+  given-never x = record { differs = λ e. refused-given (sym e) }
+
+  pub refused-never : (number : ℕ) (values : List ℕ) → number ≢ n → Never {A = A} n (refused number values)
+  refused-never number values d = record { differs = λ e q. d (same e ∙ q) }
+    where
+      same : {m : ℕ} {vs : List ℕ} → _≡_ {A = Answer A} (refused number values) (refused m vs) → number ≡ m
+      same e = cc
+
+module _ {n : ℕ} where
+  pub when-never : (b : Bool) (number : ℕ) → number ≢ n → Never n (when b number)
+  when-never true number d = refused-never number [] d
+  when-never false number d = given-never tt
+
+  pub after-never : {A B : Type 0} {a : Answer A} {next : A → Answer B} → Never n a → ((x : A) → Never n (next x)) → Never n (after a next)
+  after-never {a = given x} d m = m x
+  after-never {a = refused number values} d m = refused-never number values (d .differs refl)
+
+  pub also-never : {A : Type 0} {j : Judgement} {a : Answer A} → Never n j → Never n a → Never n (also j a)
+  also-never d m = after-never d (λ u. m)

@@ -1,8 +1,8 @@
--- Laws of places that are filled one after the other, and of the size of a sheet.
-use mathlib.Core.Path.{_≡_, sym, ap, _∙_}
+-- Laws of places that are filled one after the other.
+use mathlib.Core.Path.{_≡_, ap, _∙_}
 use mathlib.Core.Bool.{cond}
 use mathlib.Core.List.{List}
-use Prim.Native.Nat.{ℕ, zero, suc, _+_, _≤_}
+use Prim.Native.Nat.{ℕ, zero, suc, _+_}
 use native.Mathlib.Omega.{arith}
 use lib.Dec.{ltb}
 use lib.ListN.{length, set}
@@ -10,13 +10,7 @@ use lib.Seq.{sets, length-sets}
 use borrow.Author.Tests.{lt-ltb}
 use Rattle.bits.specs.Bits.{listOf}
 use Rattle.bits.specs.Lists.{listOf-same}
-use Rattle.sheet.specs.declared.Sheet.{Sheet}
-use Rattle.sheet.specs.declared.Written.{Written}
-use Rattle.sheet.specs.declared.Written.the-variants.{Bytes, No as NoBytes}
-use Rattle.sheet.specs.Calls.{places, writeOf}
-use Rattle.sheet.specs.RoundTrip.{written-range}
-use Rattle.sheet.specs.Answers.{toldBytes}
-use Rattle.bellkettle.specs.Replies.{sizeIn}
+use Rattle.sheet.specs.Calls.{places}
 
 sets-from : {A : Type 0} (at i : ℕ) (f : ℕ → A) (old : List A) → set (sets old at (listOf i f)) (at + i) (f i) ≡ sets old at (listOf (suc i) f)
 unfolding listOf
@@ -34,13 +28,8 @@ filled-more i f old e h =
 pub filled-length : {A : Type 0} (i : ℕ) (f : ℕ → A) (old : List A) {now : List A} → now ≡ sets old 0 (listOf i f) → length now ≡ length old
 filled-length i f old h = ap length h ∙ length-sets old 0 (listOf i f)
 
--- Sixteen places that are taken one after the other.
-pub places-all : {A : Type 0} (blank : A) (f : ℕ → A) {i : ℕ} {l : List A} → l ≡ places blank i f → i ≡ 16 → l ≡ listOf 16 f
-places-all blank f h e =
-    h ∙ ap (λ k. places blank k f) e
-    ∙ listOf-same 16 (λ i. cond (ltb i 16) (f i) blank) f (λ i l. ap (λ b. cond b (f i) blank) (lt-ltb i 16 l))
-
--- A sheet that is written takes at most 94 bytes.
-pub size-most : (s : Sheet) (room : ℕ) (w : Written) → toldBytes w ≡ writeOf s room → sizeIn w ≤ 94
-size-most s room (Bytes n) e = written-range s room n (sym e) .1
-size-most s room (NoBytes r) e = omega arith
+-- So many places that are taken one after the other.
+pub places-all : {A : Type 0} (n : ℕ) (blank : A) (f : ℕ → A) {i : ℕ} {l : List A} → l ≡ places n blank i f → i ≡ n → l ≡ listOf n f
+places-all n blank f h e =
+    h ∙ ap (λ k. places n blank k f) e
+    ∙ listOf-same n (λ i. cond (ltb i n) (f i) blank) f (λ i l. ap (λ b. cond b (f i) blank) (lt-ltb i n l))

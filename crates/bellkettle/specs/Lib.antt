@@ -6,6 +6,7 @@ pub mod Promises
 pub mod Replies
 pub mod ReplyLaws
 pub mod FieldLaws
+pub mod SizeLaws
 -- The results: 0 exactly when the answer is given, and one returned number and one content of lent memory for each input.
 pub mod Results
 pub mod Unique

@@ -48,18 +48,18 @@ summaryNumbers s =
 abbrev pub boundsNumbers : Bounds → List ℤ
 boundsNumbers b = pos (b .«sampling_bound») ∷ pos (b .bound) ∷ []
 
--- n and m.
+-- Edition, n and the number of chains, which an old sheet does not give.
 abbrev pub countNumbers : Sheet → List ℤ
-countNumbers s = pos (s .count) ∷ pos (s .length) ∷ []
+countNumbers s = pos (s .edition) ∷ pos (s .count) ∷ pos (s .suite) ∷ []
 
 -- What a sheet answers to a question, with a table of `room` entries.
 abbrev pub answerTo : Question → ℕ → Sheet → Answer (List ℤ)
 answerTo Responses room s = inNumbers totalsNumbers (responsesOf s room)
-answerTo (Delay release) room s = inNumbers alone (delayOf s release room)
-answerTo (Margin limit) room s = inNumbers signed (marginOf s limit room)
-answerTo DefaultMargin room s = inNumbers signed (defaultMarginOf s room)
-answerTo Figures room s = inNumbers summaryNumbers (figuresOf s room)
+answerTo (Delay number release) room s = inNumbers alone (delayOf s number release room)
+answerTo (Margin number limit) room s = inNumbers signed (marginOf s number limit room)
+answerTo (DefaultMargin number) room s = inNumbers signed (defaultMarginOf s number room)
+answerTo (Figures number) room s = inNumbers summaryNumbers (figuresOf s number room)
 
 -- What it answers with no table.
-abbrev pub quickTo : Sheet → Answer (List ℤ)
-quickTo s = inNumbers boundsNumbers (quickOf s)
+abbrev pub quickTo : ℕ → Sheet → Answer (List ℤ)
+quickTo number s = inNumbers boundsNumbers (quickOf s number)

@@ -12,7 +12,7 @@ use Rattle.sheet.specs.Tasks.{tasksOf}
 use Rattle.schedule.specs.Calls.{tableAfter}
 use Rattle.bellkettle.specs.declared.Question.{Question}
 use Rattle.bellkettle.specs.Numbers.{numberOf, valuesOf, inNumbers, alone, countNumbers, answerTo, quickTo}
-use Rattle.bellkettle.specs.Fields.{periodsIn, budgetsIn, ranksIn, entriesIn, sixteen, sheetFrom}
+use Rattle.bellkettle.specs.Fields.{periodsIn, budgetsIn, ranksIn, limitsIn, lengthsIn, entriesIn, spread, sheetFrom}
 
 -- The number of an answer is returned, and its values stand at the front of the lent slice, as many as it has places for.
 abbrev pub Returned : Answer (List ℤ) → ℕ → List ℤ → List ℤ → Type 0
@@ -30,32 +30,34 @@ SheetAsked question bytes returned old-values values old-table table =
     × (table ≡ lentAfter (readOf bytes) (λ s. tableAfter (answerTo question (length old-table) s) (tasksOf s) old-table) old-table)
 
 -- The quick bound is asked of them, with no table.
-abbrev pub quickIn : List ℕ → Answer (List ℤ)
-quickIn bytes = after (readOf bytes) quickTo
+abbrev pub quickIn : List ℕ → ℕ → Answer (List ℤ)
+quickIn bytes number = after (readOf bytes) (quickTo number)
 
-abbrev pub QuickAsked : List ℕ → ℕ → List ℤ → List ℤ → Type 0
-QuickAsked bytes returned old-values values = Returned (quickIn bytes) returned old-values values
+abbrev pub QuickAsked : List ℕ → ℕ → ℕ → List ℤ → List ℤ → Type 0
+QuickAsked bytes number returned old-values values = Returned (quickIn bytes number) returned old-values values
 
--- A sheet's bytes are read: n and m, and the fields in their slices.
+-- A sheet's bytes are read: edition, n and the number of chains, and the fields in their slices.
 abbrev pub countsIn : List ℕ → Answer (List ℤ)
 countsIn bytes = inNumbers countNumbers (readOf bytes)
 
-abbrev pub fieldsAfter : List ℕ → (Sheet → ℕ → ℕ) → List ℕ → List ℕ
-fieldsAfter bytes fields old = lentAfter (readOf bytes) (λ s. sixteen (fields s) old) old
+abbrev pub fieldsAfter : List ℕ → ℕ → (Sheet → ℕ → ℕ) → List ℕ → List ℕ
+fieldsAfter bytes n fields old = lentAfter (readOf bytes) (λ s. spread n (fields s) old) old
 
-abbrev pub SheetRead : List ℕ → ℕ → List ℤ → List ℤ → List ℕ → List ℕ → List ℕ → List ℕ → List ℕ → List ℕ → List ℕ → List ℕ → Type 0
-SheetRead bytes returned old-values values old-periods periods old-budgets budgets old-ranks ranks old-chain chain =
+abbrev pub SheetRead : List ℕ → ℕ → List ℤ → List ℤ → List ℕ → List ℕ → List ℕ → List ℕ → List ℕ → List ℕ → List ℕ → List ℕ → List ℕ → List ℕ → List ℕ → List ℕ → Type 0
+SheetRead bytes returned old-values values old-periods periods old-budgets budgets old-ranks ranks old-limits limits old-lengths lengths old-entries entries =
     Returned (countsIn bytes) returned old-values values
-    × (periods ≡ fieldsAfter bytes periodsIn old-periods)
-    × (budgets ≡ fieldsAfter bytes budgetsIn old-budgets)
-    × (ranks ≡ fieldsAfter bytes ranksIn old-ranks)
-    × (chain ≡ fieldsAfter bytes entriesIn old-chain)
+    × (periods ≡ fieldsAfter bytes 16 periodsIn old-periods)
+    × (budgets ≡ fieldsAfter bytes 16 budgetsIn old-budgets)
+    × (ranks ≡ fieldsAfter bytes 16 ranksIn old-ranks)
+    × (limits ≡ fieldsAfter bytes 8 limitsIn old-limits)
+    × (lengths ≡ fieldsAfter bytes 8 lengthsIn old-lengths)
+    × (entries ≡ fieldsAfter bytes 128 entriesIn old-entries)
 
 -- The sheet that fields make is written: how many bytes, and these in the buffer.
 abbrev pub sizeFor : Sheet → ℕ → Answer (List ℤ)
 sizeFor s room = inNumbers alone (writeOf s room)
 
-abbrev pub SheetWritten : List ℕ → List ℕ → List ℕ → List ℕ → ℕ → List ℤ → List ℤ → List ℕ → List ℕ → Type 0
-SheetWritten periods budgets ranks chain returned old-values values old out =
-    let s = sheetFrom periods budgets ranks chain in
+abbrev pub SheetWritten : ℕ → List ℕ → List ℕ → List ℕ → List ℕ → List ℕ → List ℕ → ℕ → List ℤ → List ℤ → List ℕ → List ℕ → Type 0
+SheetWritten edition periods budgets ranks limits lengths entries returned old-values values old out =
+    let s = sheetFrom edition periods budgets ranks limits lengths entries in
     Returned (sizeFor s (length old)) returned old-values values × (out ≡ bufferAfter (writeOf s (length old)) s old)

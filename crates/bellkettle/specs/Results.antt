@@ -23,23 +23,23 @@ pub record ZeroWhenGiven (answer : Answer (List ℤ)) : Type 0 where
   pub zero-given : numberOf answer ≡ 0 → (values : List ℤ) × (answer ≡ given values)
   pub given-zero : (values : List ℤ) → answer ≡ given values → numberOf answer ≡ 0
 
-numbered-given : {answer : Answer (List ℤ)} → Numbered 1 15 answer → numberOf answer ≡ 0 → (values : List ℤ) × (answer ≡ given values)
+numbered-given : {answer : Answer (List ℤ)} → Numbered 1 17 answer → numberOf answer ≡ 0 → (values : List ℤ) × (answer ≡ given values)
 numbered-given {answer = given values} n e = (values, refl)
 numbered-given {answer = refused number values} n e = absurd (omega (arith, n .least refl, e))
 
-numbered-zero : {answer : Answer (List ℤ)} → Numbered 1 15 answer → ZeroWhenGiven answer
+numbered-zero : {answer : Answer (List ℤ)} → Numbered 1 17 answer → ZeroWhenGiven answer
 numbered-zero n = record { zero-given = numbered-given n; given-zero = λ values e. ap numberOf e }
 
 -- An answer keeps its refusals when it is told in numbers.
 told-numbered : {A : Type 0} {answer : Answer A} {low high : ℕ} (numbers : A → List ℤ) → Numbered low high answer → Numbered low high (inNumbers numbers answer)
 told-numbered numbers n = after-numbered n (λ a. given-numbered (numbers a))
 
-answer-numbered : (question : Question) (room : ℕ) (s : Sheet) → Numbered 2 15 (answerTo question room s)
+answer-numbered : (question : Question) (room : ℕ) (s : Sheet) → Numbered 2 17 (answerTo question room s)
 answer-numbered Responses room s = told-numbered totalsNumbers (responses-numbered s room)
-answer-numbered (Delay release) room s = told-numbered alone (delay-numbered s room release)
-answer-numbered (Margin limit) room s = told-numbered signed (margin-numbered s room limit)
-answer-numbered DefaultMargin room s = told-numbered signed (margin-numbered s room defaultLimit)
-answer-numbered Figures room s = told-numbered summaryNumbers (figures-numbered s room)
+answer-numbered (Delay number release) room s = told-numbered alone (delay-numbered s number room release)
+answer-numbered (Margin number limit) room s = told-numbered signed (margin-numbered s number room limit)
+answer-numbered (DefaultMargin number) room s = told-numbered signed (margin-numbered s number room defaultLimit)
+answer-numbered (Figures number) room s = told-numbered summaryNumbers (figures-numbered s number room)
 
 pub asked-zero : (question : Question) (bytes : List ℕ) (room : ℕ) → ZeroWhenGiven (after (readOf bytes) (answerTo question room))
 asked-zero question bytes room =
@@ -47,11 +47,11 @@ asked-zero question bytes room =
     (after-numbered (numbered-wider (read-numbered bytes) (omega arith) (omega arith))
     (λ s. numbered-wider (answer-numbered question room s) (omega arith) (omega arith)))
 
-pub quick-zero : (bytes : List ℕ) → ZeroWhenGiven (quickIn bytes)
-quick-zero bytes =
+pub quick-zero : (bytes : List ℕ) (number : ℕ) → ZeroWhenGiven (quickIn bytes number)
+quick-zero bytes number =
     numbered-zero
-    (after-numbered {next = quickTo} (numbered-wider (read-numbered bytes) (omega arith) (omega arith))
-    (λ s. numbered-wider (told-numbered boundsNumbers (quick-numbered s)) (omega arith) (omega arith)))
+    (after-numbered {next = quickTo number} (numbered-wider (read-numbered bytes) (omega arith) (omega arith))
+    (λ s. numbered-wider (told-numbered boundsNumbers (quick-numbered s number)) (omega arith) (omega arith)))
 
 pub read-zero : (bytes : List ℕ) → ZeroWhenGiven (countsIn bytes)
 read-zero bytes = numbered-zero (told-numbered countNumbers (numbered-wider (read-numbered bytes) (omega arith) (omega arith)))

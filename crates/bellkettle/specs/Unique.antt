@@ -16,16 +16,24 @@ module _ (bytes : List ℕ) (x y : ℕ) (values v w : List ℤ) where
       → ((x ≡ y) × (v ≡ w)) × (t ≡ u)
   asked-unique question table t u p q = ((same (p .0 .0) (q .0 .0), same (p .0 .1) (q .0 .1)), same (p .1) (q .1))
 
-  pub quick-unique : QuickAsked bytes x values v → QuickAsked bytes y values w → (x ≡ y) × (v ≡ w)
-  quick-unique p q = (same (p .0) (q .0), same (p .1) (q .1))
+  pub quick-unique : (number : ℕ) → QuickAsked bytes number x values v → QuickAsked bytes number y values w → (x ≡ y) × (v ≡ w)
+  quick-unique number p q = (same (p .0) (q .0), same (p .1) (q .1))
 
-  pub read-unique : (periods p p′ budgets b b′ ranks r r′ chain e e′ : List ℕ)
-      → SheetRead bytes x values v periods p budgets b ranks r chain e → SheetRead bytes y values w periods p′ budgets b′ ranks r′ chain e′
-      → ((x ≡ y) × (v ≡ w)) × (p ≡ p′) × (b ≡ b′) × (r ≡ r′) × (e ≡ e′)
-  read-unique periods p p′ budgets b b′ ranks r r′ chain e e′ g h =
-      ((same (g .0 .0) (h .0 .0), same (g .0 .1) (h .0 .1)), same (g .1) (h .1), same (g .2) (h .2), same (g .3) (h .3), same (g .4) (h .4))
+  pub read-unique : (periods p p′ budgets b b′ ranks r r′ limits l l′ lengths m m′ entries e e′ : List ℕ)
+      → SheetRead bytes x values v periods p budgets b ranks r limits l lengths m entries e
+      → SheetRead bytes y values w periods p′ budgets b′ ranks r′ limits l′ lengths m′ entries e′
+      → ((x ≡ y) × (v ≡ w)) × (p ≡ p′) × (b ≡ b′) × (r ≡ r′) × (l ≡ l′) × (m ≡ m′) × (e ≡ e′)
+  read-unique periods p p′ budgets b b′ ranks r r′ limits l l′ lengths m m′ entries e e′ g h = (
+    (same (g .0 .0) (h .0 .0), same (g .0 .1) (h .0 .1)),
+    same (g .1) (h .1),
+    same (g .2) (h .2),
+    same (g .3) (h .3),
+    same (g .4) (h .4),
+    same (g .5) (h .5),
+    same (g .6) (h .6),
+  )
 
-pub write-unique : (periods budgets ranks chain : List ℕ) (x y : ℕ) (values v w : List ℤ) (out t u : List ℕ)
-    → SheetWritten periods budgets ranks chain x values v out t → SheetWritten periods budgets ranks chain y values w out u
+pub write-unique : (edition : ℕ) (periods budgets ranks limits lengths entries : List ℕ) (x y : ℕ) (values v w : List ℤ) (out t u : List ℕ)
+    → SheetWritten edition periods budgets ranks limits lengths entries x values v out t → SheetWritten edition periods budgets ranks limits lengths entries y values w out u
     → ((x ≡ y) × (v ≡ w)) × (t ≡ u)
-write-unique periods budgets ranks chain x y values v w out t u p q = ((same (p .0 .0) (q .0 .0), same (p .0 .1) (q .0 .1)), same (p .1) (q .1))
+write-unique edition periods budgets ranks limits lengths entries x y values v w out t u p q = ((same (p .0 .0) (q .0 .0), same (p .0 .1) (q .0 .1)), same (p .1) (q .1))

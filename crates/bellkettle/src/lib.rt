@@ -11,11 +11,12 @@ use recurrence::Bounds;
 use recurrence::Quick;
 use schedule::Responses;
 use schedule::Totals;
+use sheet::Chain;
 use sheet::Sheet;
 use sheet::Written;
 use theory::Task;
 ghost use mathlib.Core.Path.{_≡_};
-ghost use Prim.Native.Nat.{_≤_};
+ghost use Prim.Native.Nat.{_+_, _≤_, _<_};
 ghost use lib.IntN.{pos};
 ghost use lib.ListN.{length, getD, set};
 ghost use lib.Seq.{sets};
@@ -28,17 +29,17 @@ ghost use Rattle.schedule.specs.Calls.{tableAfter};
 ghost use Rattle.recurrence.specs.Calls.{toldQuick};
 ghost use Rattle.chain.specs.Calls.{toldDelay, toldMargin, toldFigures};
 ghost use Rattle.bellkettle.specs.Numbers.{inNumbers, alone, signed, totalsNumbers, summaryNumbers, boundsNumbers, countNumbers, answerTo};
-ghost use Rattle.bellkettle.specs.Fields.{periodsIn, budgetsIn, ranksIn, entriesIn, sixteen, counted, tasksCounted, taskFrom, entryFrom, sheetFrom};
+ghost use Rattle.bellkettle.specs.Fields.{periodsIn, budgetsIn, ranksIn, limitsIn, lengthsIn, entriesIn, spread, counted, tasksCounted, chainsCounted, taskFrom, chainFrom, sheetFrom};
 ghost use Rattle.bellkettle.specs.Promises.{SheetAsked, QuickAsked, SheetRead, SheetWritten};
 ghost use Rattle.bellkettle.specs.Replies.{mostValues, valuesTold, Tells, sizeIn};
 
-// What is asked of a sheet.
+// What is asked of a sheet, or of the chain of a number.
 enum Question {
     Responses,
-    Delay(u32),
-    Margin(u32),
-    DefaultMargin,
-    Figures,
+    Delay(u8, u32),
+    Margin(u8, u32),
+    DefaultMargin(u8),
+    Figures(u8),
 }
 
 // No answer has more values than the figures of a report.
@@ -114,12 +115,13 @@ fn bounds_numbers(b: Bounds) -> Reply
 fn count_numbers(s: Sheet) -> Reply
     ensures { λ reply. ⌜ Tells reply (given (countNumbers s)) ⌝ }
 {
+    let edition = s.edition as u32;
     let n = s.count as u32;
-    let m = s.length as u32;
+    let chains = s.suite as u32;
     Reply {
         number: 0,
-        count: 2,
-        values: [wide(n), wide(m), 0, 0, 0, 0, 0, 0, 0],
+        count: 3,
+        values: [wide(edition), wide(n), wide(chains), 0, 0, 0, 0, 0, 0],
     }
 }
 
@@ -210,7 +212,7 @@ fn quick_reply(q: Quick) -> Reply
 }
 
 fn written_reply(w: Written) -> Reply
-    requires { ⌜ sizeIn w ≤ 94 ⌝ }
+    requires { ⌜ sizeIn w ≤ 178 ⌝ }
     ensures { λ reply. ⌜ Tells reply (inNumbers alone (toldBytes w)) ⌝ }
 {
     let Written::Bytes(size) = w else {
@@ -226,11 +228,25 @@ fn answer(question: Question, s: Sheet, table: &mut [u32]) -> Reply
 {
     match question {
         Question::Responses => responses_reply(schedule::responses(s, &mut *table)),
-        Question::Delay(release) => delay_reply(chain::delay(s, release, &mut *table)),
-        Question::Margin(limit) => margin_reply(chain::margin(s, limit, &mut *table)),
-        Question::DefaultMargin => margin_reply(chain::default_margin(s, &mut *table)),
-        Question::Figures => {
-            let filled = chain::figures(s, &mut *table);
+        Question::Delay(number, release) => delay_reply(chain::delay(
+            s,
+            number,
+            release,
+            &mut *table,
+        )),
+        Question::Margin(number, limit) => margin_reply(chain::margin(
+            s,
+            number,
+            limit,
+            &mut *table,
+        )),
+        Question::DefaultMargin(number) => margin_reply(chain::default_margin(
+            s,
+            number,
+            &mut *table,
+        )),
+        Question::Figures(number) => {
+            let filled = chain::figures(s, number, &mut *table);
             let figures = filled.answer;
             figures_reply(figures)
         }
@@ -280,63 +296,86 @@ pub extern "C" fn bellkettle_responses(sheet: &[u8], table: &mut [u32], values: 
     ask(Question::Responses, sheet, &mut *table, &mut *values)
 }
 
-// The delay of the sheet's chain at a release of its first task.
+// The delay of a chain at a release of its first task.
 #[no_mangle]
 pub extern "C" fn bellkettle_delay(
     sheet: &[u8],
+    chain: u8,
     release: u32,
     table: &mut [u32],
     values: &mut [i64],
 ) -> u8
-    ensures { λ r. ⌜ SheetAsked (Question.Delay release) (now (sheet .entry)) r (now (values .entry)) (now (values .exit)) (now (table .entry)) (now (table .exit)) ⌝ }
+    ensures { λ r. ⌜ SheetAsked (Question.Delay chain release) (now (sheet .entry)) r (now (values .entry)) (now (values .exit)) (now (table .entry)) (now (table .exit)) ⌝ }
 {
-    ask(Question::Delay(release), sheet, &mut *table, &mut *values)
+    ask(
+        Question::Delay(chain, release),
+        sheet,
+        &mut *table,
+        &mut *values,
+    )
 }
 
 // A limit less the worst from a flag on.
 #[no_mangle]
 pub extern "C" fn bellkettle_margin(
     sheet: &[u8],
+    chain: u8,
     limit: u32,
     table: &mut [u32],
     values: &mut [i64],
 ) -> u8
-    ensures { λ r. ⌜ SheetAsked (Question.Margin limit) (now (sheet .entry)) r (now (values .entry)) (now (values .exit)) (now (table .entry)) (now (table .exit)) ⌝ }
+    ensures { λ r. ⌜ SheetAsked (Question.Margin chain limit) (now (sheet .entry)) r (now (values .entry)) (now (values .exit)) (now (table .entry)) (now (table .exit)) ⌝ }
 {
-    ask(Question::Margin(limit), sheet, &mut *table, &mut *values)
+    ask(
+        Question::Margin(chain, limit),
+        sheet,
+        &mut *table,
+        &mut *values,
+    )
 }
 
 // "The call without a limit uses 1,000 ticks."
 #[no_mangle]
 pub extern "C" fn bellkettle_default_margin(
     sheet: &[u8],
+    chain: u8,
     table: &mut [u32],
     values: &mut [i64],
 ) -> u8
-    ensures { λ r. ⌜ SheetAsked Question.DefaultMargin (now (sheet .entry)) r (now (values .entry)) (now (values .exit)) (now (table .entry)) (now (table .exit)) ⌝ }
+    ensures { λ r. ⌜ SheetAsked (Question.DefaultMargin chain) (now (sheet .entry)) r (now (values .entry)) (now (values .exit)) (now (table .entry)) (now (table .exit)) ⌝ }
 {
-    ask(Question::DefaultMargin, sheet, &mut *table, &mut *values)
+    ask(
+        Question::DefaultMargin(chain),
+        sheet,
+        &mut *table,
+        &mut *values,
+    )
 }
 
-// The figures of the chain, from one filling of the table.
+// The figures of a chain, from one filling of the table.
 #[no_mangle]
-pub extern "C" fn bellkettle_figures(sheet: &[u8], table: &mut [u32], values: &mut [i64]) -> u8
-    ensures { λ r. ⌜ SheetAsked Question.Figures (now (sheet .entry)) r (now (values .entry)) (now (values .exit)) (now (table .entry)) (now (table .exit)) ⌝ }
+pub extern "C" fn bellkettle_figures(
+    sheet: &[u8],
+    chain: u8,
+    table: &mut [u32],
+    values: &mut [i64],
+) -> u8
+    ensures { λ r. ⌜ SheetAsked (Question.Figures chain) (now (sheet .entry)) r (now (values .entry)) (now (values .exit)) (now (table .entry)) (now (table .exit)) ⌝ }
 {
-    ask(Question::Figures, sheet, &mut *table, &mut *values)
+    ask(Question::Figures(chain), sheet, &mut *table, &mut *values)
 }
 
 // The quick bound with no table: from a release of the chain's first task on, and from a flag on.
 #[no_mangle]
-pub extern "C" fn bellkettle_quick_bound(sheet: &[u8], values: &mut [i64]) -> u8
-    ensures { λ r. ⌜ QuickAsked (now (sheet .entry)) r (now (values .entry)) (now (values .exit)) ⌝ }
+pub extern "C" fn bellkettle_quick_bound(sheet: &[u8], chain: u8, values: &mut [i64]) -> u8
+    ensures { λ r. ⌜ QuickAsked (now (sheet .entry)) chain r (now (values .entry)) (now (values .exit)) ⌝ }
 {
     let reading = sheet::read(sheet);
     let verdict = reading.verdict;
     let Verdict::Fine = verdict else {
         return hand(refuse(answers::refusal_of(verdict)), &mut *values);
     };
-    let found = recurrence::bound(reading.sheet);
+    let found = recurrence::bound(reading.sheet, chain);
     let quick = found.answer;
     hand(quick_reply(quick), &mut *values)
 }
@@ -358,12 +397,11 @@ fn put_byte(bytes: &mut [u8], i: usize, x: u8)
     }
 }
 
-// The fields of a sheet, place by place.
-fn spread(s: Sheet, periods: &mut [u32], budgets: &mut [u32], ranks: &mut [u8], chain: &mut [u8])
-    ensures { λ _. ⌜ now (periods .exit) ≡ sixteen (periodsIn s) (now (periods .entry)) ⌝ }
-    ensures { λ _. ⌜ now (budgets .exit) ≡ sixteen (budgetsIn s) (now (budgets .entry)) ⌝ }
-    ensures { λ _. ⌜ now (ranks .exit) ≡ sixteen (ranksIn s) (now (ranks .entry)) ⌝ }
-    ensures { λ _. ⌜ now (chain .exit) ≡ sixteen (entriesIn s) (now (chain .entry)) ⌝ }
+// The fields of the tasks, place by place.
+fn spread_tasks(s: Sheet, periods: &mut [u32], budgets: &mut [u32], ranks: &mut [u8])
+    ensures { λ _. ⌜ now (periods .exit) ≡ spread 16 (periodsIn s) (now (periods .entry)) ⌝ }
+    ensures { λ _. ⌜ now (budgets .exit) ≡ spread 16 (budgetsIn s) (now (budgets .entry)) ⌝ }
+    ensures { λ _. ⌜ now (ranks .exit) ≡ spread 16 (ranksIn s) (now (ranks .entry)) ⌝ }
 {
     let mut i = 0usize;
     while i < 16 {
@@ -371,22 +409,50 @@ fn spread(s: Sheet, periods: &mut [u32], budgets: &mut [u32], ranks: &mut [u8], 
         put_number(&mut *periods, i, t.period);
         put_number(&mut *budgets, i, t.budget);
         put_byte(&mut *ranks, i, t.rank);
-        put_byte(&mut *chain, i, s.chain[i]);
         i += 1;
     }
 }
 
-// n and m, and the fields in the sixteen places of each lent slice.
+// Those of the chains,
+fn spread_chains(s: Sheet, limits: &mut [u32], lengths: &mut [u8])
+    ensures { λ _. ⌜ now (limits .exit) ≡ spread 8 (limitsIn s) (now (limits .entry)) ⌝ }
+    ensures { λ _. ⌜ now (lengths .exit) ≡ spread 8 (lengthsIn s) (now (lengths .entry)) ⌝ }
+{
+    let mut c = 0usize;
+    while c < 8 {
+        let chain = s.chains[c];
+        put_number(&mut *limits, c, chain.limit);
+        put_byte(&mut *lengths, c, chain.length);
+        c += 1;
+    }
+}
+
+// and their entries, sixteen places for each chain.
+fn spread_entries(s: Sheet, entries: &mut [u8])
+    ensures { λ _. ⌜ now (entries .exit) ≡ spread 128 (entriesIn s) (now (entries .entry)) ⌝ }
+{
+    let mut i = 0usize;
+    while i < 128 {
+        let c = s.chains[i / 16];
+        let chain = c.entries;
+        put_byte(&mut *entries, i, chain[i % 16]);
+        i += 1;
+    }
+}
+
+// Edition, n and the number of chains, and the fields in the places of each lent slice.
 #[no_mangle]
 pub extern "C" fn bellkettle_read(
     sheet: &[u8],
     periods: &mut [u32],
     budgets: &mut [u32],
     ranks: &mut [u8],
-    chain: &mut [u8],
+    limits: &mut [u32],
+    lengths: &mut [u8],
+    entries: &mut [u8],
     values: &mut [i64],
 ) -> u8
-    ensures { λ r. ⌜ SheetRead (now (sheet .entry)) r (now (values .entry)) (now (values .exit)) (now (periods .entry)) (now (periods .exit)) (now (budgets .entry)) (now (budgets .exit)) (now (ranks .entry)) (now (ranks .exit)) (now (chain .entry)) (now (chain .exit)) ⌝ }
+    ensures { λ r. ⌜ SheetRead (now (sheet .entry)) r (now (values .entry)) (now (values .exit)) (now (periods .entry)) (now (periods .exit)) (now (budgets .entry)) (now (budgets .exit)) (now (ranks .entry)) (now (ranks .exit)) (now (limits .entry)) (now (limits .exit)) (now (lengths .entry)) (now (lengths .exit)) (now (entries .entry)) (now (entries .exit)) ⌝ }
 {
     let reading = sheet::read(sheet);
     let verdict = reading.verdict;
@@ -394,7 +460,9 @@ pub extern "C" fn bellkettle_read(
         return hand(refuse(answers::refusal_of(verdict)), &mut *values);
     };
     let s = reading.sheet;
-    spread(s, &mut *periods, &mut *budgets, &mut *ranks, &mut *chain);
+    spread_tasks(s, &mut *periods, &mut *budgets, &mut *ranks);
+    spread_chains(s, &mut *limits, &mut *lengths);
+    spread_entries(s, &mut *entries);
     hand(count_numbers(s), &mut *values)
 }
 
@@ -469,46 +537,101 @@ fn tasks_from(periods: &[u32], budgets: &[u32], ranks: &[u8]) -> [Task; 16]
     tasks
 }
 
-fn chain_from(chain: &[u8]) -> [u8; 16]
-    ensures { λ r. ⌜ r ≡ listOf 16 (entryFrom (now (chain .entry))) ⌝ }
+// Sixteen entries, from a place on.
+fn entries_from(entries: &[u8], from: usize) -> [u8; 16]
+    requires { ⌜ from ≤ 112 ⌝ }
+    ensures { λ r. ⌜ r ≡ listOf 16 (λ i. getD (now (entries .entry)) (from + i) 0) ⌝ }
 {
-    let mut entries = [0u8; 16];
+    let mut taken = [0u8; 16];
     let mut i = 0usize;
     while i < 16 {
-        entries[i] = byte_at(chain, i);
+        taken[i] = byte_at(entries, from + i);
         i += 1;
     }
-    entries
+    taken
 }
 
-fn sheet_from(periods: &[u32], budgets: &[u32], ranks: &[u8], chain: &[u8]) -> Sheet
-    ensures { λ r. ⌜ r ≡ sheetFrom (now (periods .entry)) (now (budgets .entry)) (now (ranks .entry)) (now (chain .entry)) ⌝ }
+fn chain_from(limits: &[u32], lengths: &[u8], entries: &[u8], c: usize) -> Chain
+    requires { ⌜ c < 8 ⌝ }
+    ensures { λ r. ⌜ r ≡ chainFrom (now (limits .entry)) (now (lengths .entry)) (now (entries .entry)) c ⌝ }
+{
+    let taken = entries_from(entries, 16 * c);
+    let length = byte_at(lengths, c);
+    let limit = number_at(limits, c);
+    Chain {
+        entries: taken,
+        length,
+        limit,
+    }
+}
+
+fn chains_from(limits: &[u32], lengths: &[u8], entries: &[u8]) -> [Chain; 8]
+    ensures { λ r. ⌜ r ≡ listOf 8 (chainFrom (now (limits .entry)) (now (lengths .entry)) (now (entries .entry))) ⌝ }
+{
+    let blank = Chain {
+        entries: [0u8; 16],
+        length: 0,
+        limit: 0,
+    };
+    let mut chains = [blank; 8];
+    let mut c = 0usize;
+    while c < 8 {
+        chains[c] = chain_from(limits, lengths, entries, c);
+        c += 1;
+    }
+    chains
+}
+
+fn chains_counted(limits: &[u32], lengths: &[u8]) -> u8
+    ensures { λ r. ⌜ r ≡ chainsCounted (now (limits .entry)) (now (lengths .entry)) ⌝ }
+{
+    let n = lengths.len();
+    if limits.len() != n {
+        return 0;
+    }
+    few(n)
+}
+
+fn sheet_from(
+    edition: u8,
+    periods: &[u32],
+    budgets: &[u32],
+    ranks: &[u8],
+    limits: &[u32],
+    lengths: &[u8],
+    entries: &[u8],
+) -> Sheet
+    ensures { λ r. ⌜ r ≡ sheetFrom edition (now (periods .entry)) (now (budgets .entry)) (now (ranks .entry)) (now (limits .entry)) (now (lengths .entry)) (now (entries .entry)) ⌝ }
 {
     let tasks = tasks_from(periods, budgets, ranks);
-    let entries = chain_from(chain);
+    let chains = chains_from(limits, lengths, entries);
     let count = tasks_counted(periods, budgets, ranks);
-    let length = few(chain.len());
+    let suite = chains_counted(limits, lengths);
     Sheet {
         tasks,
-        chain: entries,
+        chains,
+        edition,
         count,
-        length,
+        suite,
     }
 }
 
 // The bytes of the sheet that the fields make, and how many they are.
 #[no_mangle]
 pub extern "C" fn bellkettle_write(
+    edition: u8,
     periods: &[u32],
     budgets: &[u32],
     ranks: &[u8],
-    chain: &[u8],
+    limits: &[u32],
+    lengths: &[u8],
+    entries: &[u8],
     out: &mut [u8],
     values: &mut [i64],
 ) -> u8
-    ensures { λ r. ⌜ SheetWritten (now (periods .entry)) (now (budgets .entry)) (now (ranks .entry)) (now (chain .entry)) r (now (values .entry)) (now (values .exit)) (now (out .entry)) (now (out .exit)) ⌝ }
+    ensures { λ r. ⌜ SheetWritten edition (now (periods .entry)) (now (budgets .entry)) (now (ranks .entry)) (now (limits .entry)) (now (lengths .entry)) (now (entries .entry)) r (now (values .entry)) (now (values .exit)) (now (out .entry)) (now (out .exit)) ⌝ }
 {
-    let s = sheet_from(periods, budgets, ranks, chain);
+    let s = sheet_from(edition, periods, budgets, ranks, limits, lengths, entries);
     let written = sheet::write(s, &mut *out);
     hand(written_reply(written), &mut *values)
 }

@@ -13,24 +13,29 @@ use Rattle.theory.specs.Model.Schedule.{period, release}
 use Rattle.theory.specs.Model.Responses.{hyperperiod}
 use Rattle.theory.specs.Model.Chain.{delay}
 use Rattle.answers.specs.declared.Refusal.{Refusal}
-use Rattle.answers.specs.Answers.{Answer, given, refused, after, numberIn, refusal, when}
+use Rattle.answers.specs.declared.Verdict.{Verdict}
+use Rattle.answers.specs.declared.Verdict.the-variants.{Fine, No}
+use Rattle.answers.specs.Answers.{Answer, given, refused, Judgement, fine, when, after, also, numberIn, refusal}
 use Rattle.answers.specs.AnswerLaws.{when-fine, also-given, after-given}
 use Rattle.sheet.specs.declared.Sheet.{Sheet}
-use Rattle.sheet.specs.Tasks.{tasksOf, chainOf, firstOf}
+use Rattle.sheet.specs.Calls.{judgeOf}
+use Rattle.sheet.specs.Tasks.{tasksOf, lacks, chainOf, firstOf}
 use Rattle.sheet.specs.Sound.{Sound}
 use Rattle.sheet.specs.SoundLaws.{judged-sound}
 use Rattle.sheet.specs.TaskLaws.{chain-known, chain-most}
 use Rattle.schedule.specs.declared.answer.Totals.{Totals}
 use Rattle.schedule.specs.declared.answer.Size.{Size}
 use Rattle.schedule.specs.Calls.{sizesOf, responsesOf, tableAfter}
-use Rattle.schedule.specs.NumberLaws.{sizes-numbered}
+use Rattle.schedule.specs.NumberLaws.{sizes-never-15}
 use Rattle.schedule.specs.Promises.{AnswersAs}
 use Rattle.schedule.specs.Results.{responses-given, given-taken}
 use Rattle.schedule.specs.Taken.{Taken, Holds}
 use Rattle.schedule.specs.RowLaws.{filled-holds}
 use Rattle.chain.specs.declared.answer.Summary.{Summary}
-use Rattle.chain.specs.Calls.{delayAt, figureOf, quickBound, fromFlag, less, noRelease, mostLimit, defaultLimit, summaryOf, delayOf, marginOf, figuresOf}
-use Rattle.chain.specs.Conditions.{TakenChain}
+use Rattle.chain.specs.Calls.{delayAt, figureOf, quickBound, fromFlag, less, noRelease, named, mostLimit, reportLimit, summaryAt, delayOf, marginOf, figuresOf}
+use Rattle.chain.specs.Conditions.{TakenChain, Lacking, overLimit}
+use Rattle.chain.specs.NumberLaws.{named-never-15, over-never-15}
+use Rattle.chain.specs.SuiteLaws.{report-most}
 
 -- ---- how a call ends
 
@@ -48,59 +53,110 @@ module _ {A B : Type 0} (s : Sheet) (old : List ℕ) {source : Answer A} (next :
       let d : after source next ≡ given b = ap (λ x. after x next) e ∙ q in
       (sym d, t ∙ ap (λ x. tableAfter x (tasksOf s) old) e ∙ ap (λ x. tableAfter x (tasksOf s) old) (sym d))
 
--- A refusal of H and J leaves the table untouched,
-pub sizes-untouched : (s : Sheet) (old : List ℕ) (r : Refusal) → sizesOf s ≡ refusal r → old ≡ tableAfter (sizesOf s) (tasksOf s) old
-sizes-untouched s old r e = let l : numberIn r ≤ 11 = sizes-numbered s .most e in rw (e, ne-eqb (numberIn r) 15 (λ z. omega arith))
+-- A refusal of a field, of the chain's number or of H and J leaves the table untouched,
+module _ (s : Sheet) (old : List ℕ) (r : Refusal) where
+  pub named-untouched : (number : ℕ) → named s number ≡ refusal r → old ≡ tableAfter (named s number) (tasksOf s) old
+  named-untouched number e = rw (e, ne-eqb (numberIn r) 15 (named-never-15 s number .differs e))
 
--- and so does 12 or 13.
+  pub sizes-untouched : sizesOf s ≡ refusal r → old ≡ tableAfter (sizesOf s) (tasksOf s) old
+  sizes-untouched e = rw (e, ne-eqb (numberIn r) 15 (sizes-never-15 s .differs e))
+
+  pub over-untouched : (number : ℕ) → overLimit s number ≡ refusal r → old ≡ tableAfter (overLimit s number) (tasksOf s) old
+  over-untouched number e = rw (e, ne-eqb (numberIn r) 15 (over-never-15 s number .differs e))
+
+-- and so does 12.
 pub answers-number : {A : Type 0} {definition : Answer A} (n : ℕ) (s : Sheet) (old : List ℕ) → n ≤ 14 → definition ≡ refused n [] → AnswersAs definition s old (refused n []) old
 answers-number n s old l e = (sym e, rw (e, ne-eqb n 15 (λ z. omega arith)))
 
+-- ---- the chain's number
+
+-- The number's refusal, or a field's, comes before the rest;
+module _ (s : Sheet) (number : ℕ) {v : Verdict} (l : Lacking s number v) where
+  pub lacking-no : (r : Refusal) → v ≡ No r → named s number ≡ refusal r
+  lacking-no r e = subst (Lacking s number) e l
+
+  pub lacking-fine : v ≡ Fine → lacks s number ≡ fine
+  lacking-fine e = subst (Lacking s number) e l
+
+-- where the sheet has the chain, the fields are judged with H and J.
+module _ {A : Type 0} (s : Sheet) (number : ℕ) (known : lacks s number ≡ fine) where
+  pub known-sizes : (next : Size → Answer A) → also (named s number) (after (sizesOf s) next) ≡ after (sizesOf s) next
+  unfolding sizesOf
+  known-sizes next = ap (λ k. also (also (judgeOf s) k) (after (sizesOf s) next)) known ∙ go (judgeOf s) _
+    where
+      go : (j : Judgement) (sizes : Answer Size) → also (also j fine) (after (also j sizes) next) ≡ after (also j sizes) next
+      go (given u) sizes = refl
+      go (refused number values) sizes = refl
+
+  pub known-responses : (room : ℕ) (next : Totals → Answer A) → also (named s number) (after (responsesOf s room) next) ≡ after (responsesOf s room) next
+  unfolding responsesOf
+  known-responses room next = ap (also (named s number)) (out (sizesOf s) _) ∙ known-sizes _ ∙ sym (out (sizesOf s) _)
+    where
+      out : (z : Answer Size) (fill : Size → Answer Totals) → after (after z fill) next ≡ after z (λ size. after (fill size) next)
+      out (given size) fill = refl
+      out (refused number values) fill = refl
+
+module _ (s : Sheet) (number : ℕ) (known : lacks s number ≡ fine) (room : ℕ) where
+  pub figures-known : figuresOf s number room ≡ after (responsesOf s room) (λ totals. given (summaryAt s number totals))
+  unfolding figuresOf
+  figures-known = known-responses s number known room _
+
+pub over-known : (s : Sheet) (number : ℕ) → lacks s number ≡ fine → overLimit s number ≡ after (sizesOf s) (λ size. refused 13 [])
+over-known s number known = known-sizes s number known _
+
 -- ---- 12 and 13
 
-module _ (s : Sheet) (room : ℕ) {size : Size} (fits : sizesOf s ≡ given size) where
+module _ (s : Sheet) (number : ℕ) (known : lacks s number ≡ fine) (room : ℕ) where
   abbrev ts : List Task
   ts = tasksOf s
 
   abbrev T : ℕ
-  T = period ts (firstOf (chainOf s))
+  T = period ts (firstOf (chainOf s number))
 
-  pub delay-beyond : (release : ℕ) → hyperperiod ts ≤ release → delayOf s release room ≡ refused 12 []
+  -- The release is judged after H and J.
+  abbrev judged : ℕ → Size → Answer ℕ
+  judged release size = also (when (noRelease ts (chainOf s number) release) 12) (after (responsesOf s room) (λ totals. given (delayAt ts (chainOf s number) release)))
+
+  pub delay-known : (release : ℕ) → delayOf s number release room ≡ after (sizesOf s) (judged release)
   unfolding delayOf
-  delay-beyond release h = rw (fits, le-leb (hyperperiod ts) release h)
+  delay-known release = known-sizes s number known _
 
-  pub delay-between : (release : ℕ) → release < hyperperiod ts → 0 < release % T → delayOf s release room ≡ refused 12 []
-  unfolding delayOf
-  delay-between release h d = rw (fits, lt-leb (hyperperiod ts) release h, lt-ltb 0 (release % T) d)
+  module _ {size : Size} (fits : sizesOf s ≡ given size) where
+    pub delay-beyond : (release : ℕ) → hyperperiod ts ≤ release → delayOf s number release room ≡ refused 12 []
+    delay-beyond release h = delay-known release ∙ rw (fits, le-leb (hyperperiod ts) release h)
 
-  pub delay-asked : (release : ℕ) → release < hyperperiod ts → release % T ≤ 0
-      → delayOf s release room ≡ after (responsesOf s room) (λ totals. given (delayAt ts (chainOf s) release))
-  unfolding delayOf
-  delay-asked release h d = rw (fits, lt-leb (hyperperiod ts) release h, le-ltb 0 (release % T) d)
+    pub delay-between : (release : ℕ) → release < hyperperiod ts → 0 < release % T → delayOf s number release room ≡ refused 12 []
+    delay-between release h d = delay-known release ∙ rw (fits, lt-leb (hyperperiod ts) release h, lt-ltb 0 (release % T) d)
 
-  pub margin-over : (limit : ℕ) → mostLimit < limit → marginOf s limit room ≡ refused 13 []
-  unfolding marginOf
-  margin-over limit h = rw (fits, lt-ltb mostLimit limit h)
+    pub delay-asked : (release : ℕ) → release < hyperperiod ts → release % T ≤ 0
+        → delayOf s number release room ≡ after (responsesOf s room) (λ totals. given (delayAt ts (chainOf s number) release))
+    delay-asked release h d = delay-known release ∙ rw (fits, lt-leb (hyperperiod ts) release h, le-ltb 0 (release % T) d)
 
--- A limit that is allowed takes no part in the refusals.
-pub margin-asked : (s : Sheet) (room limit : ℕ) → limit ≤ mostLimit → marginOf s limit room ≡ after (figuresOf s room) (λ x. given (less limit (x .worst)))
+-- A limit that is too large is refused last,
+pub margin-over : (s : Sheet) (number room limit : ℕ) → mostLimit < limit → marginOf s number limit room ≡ overLimit s number
+unfolding marginOf
+margin-over s number room limit h = rw (lt-ltb mostLimit limit h)
+
+-- and one that is allowed takes no part in the refusals.
+pub margin-asked : (s : Sheet) (number room limit : ℕ) → limit ≤ mostLimit → marginOf s number limit room ≡ after (figuresOf s number room) (λ x. given (less limit (x .worst)))
 unfolding marginOf figuresOf responsesOf
-margin-asked s room limit h = rw (le-ltb mostLimit limit h) (go (sizesOf s) _ _ _)
+margin-asked s number room limit h = rw (le-ltb mostLimit limit h) (go (named s number) (sizesOf s) _ _ _)
   where
-    go : (z : Answer Size) (fill : Size → Answer Totals) (sum : Totals → Answer Summary) (less : Summary → Answer ℤ)
-        → after z (λ size. after (after (after z fill) sum) less) ≡ after (after (after z fill) sum) less
-    go (given size) fill sum less = refl
-    go (refused number values) fill sum less = refl
+    go : (j : Judgement) (z : Answer Size) (fill : Size → Answer Totals) (sum : Totals → Answer Summary) (less : Summary → Answer ℤ)
+        → also j (after z (λ size. after (also j (after (after z fill) sum)) less)) ≡ after (also j (after (after z fill) sum)) less
+    go (refused number values) z fill sum less = refl
+    go (given u) (given size) fill sum less = refl
+    go (given u) (refused number values) fill sum less = refl
 
 -- ---- where an answer is given
 
--- The chain on a sheet whose tasks are taken.
-pub sheet-chain : {s : Sheet} → Sound s → Taken (tasksOf s) → TakenChain (tasksOf s) (chainOf s)
-sheet-chain sound taken = record { tasks = taken; known = chain-known sound; few = chain-most sound }
+-- A chain on a sheet whose tasks are taken.
+pub sheet-chain : {s : Sheet} → Sound s → Taken (tasksOf s) → (number : ℕ) → lacks s number ≡ fine → TakenChain (tasksOf s) (chainOf s number)
+sheet-chain sound taken number known = record { tasks = taken; known = chain-known sound number known; few = chain-most sound number known }
 
 -- The answer of a chain's call is given for such a chain.
-pub filled-chain : (s : Sheet) (room : ℕ) {totals : Totals} → responsesOf s room ≡ given totals → TakenChain (tasksOf s) (chainOf s)
-filled-chain s room e = sheet-chain (judged-sound s (responses-given s room e .judged-fine)) (given-taken s room e)
+pub filled-chain : (s : Sheet) (number room : ℕ) {totals : Totals} → lacks s number ≡ fine → responsesOf s room ≡ given totals → TakenChain (tasksOf s) (chainOf s number)
+filled-chain s number room known e = sheet-chain (judged-sound s (responses-given s room e .judged-fine)) (given-taken s room e) number known
 
 -- A table that is filled: what its figures are worked out from.
 pub filled-ready : (s : Sheet) (old : List ℕ) {table : List ℕ} {totals : Totals} → responsesOf s (length old) ≡ given totals → table ≡ tableAfter (responsesOf s (length old)) (tasksOf s) old
@@ -109,20 +165,25 @@ filled-ready s old e q =
     let g = responses-given s (length old) e in
     ((judged-sound s (g .judged-fine), given-taken s (length old) e), (g .hyperperiod-is, filled-holds s old e q))
 
--- The figures that are given: the chain is taken, the totals are those of `responses`, and the rest is worked out from the chain.
-pub record FiguresGiven (s : Sheet) (room : ℕ) (x : Summary) : Type 0 where
-  pub taken : TakenChain (tasksOf s) (chainOf s)
+-- The figures that are given: the chain is one of the sheet's and taken, the totals are those of `responses`, and the rest is worked out from
+-- the chain.
+pub record FiguresGiven (s : Sheet) (number room : ℕ) (x : Summary) : Type 0 where
+  pub known : lacks s number ≡ fine
+  pub limit-most : reportLimit s number ≤ mostLimit
+  pub taken : TakenChain (tasksOf s) (chainOf s number)
   pub totals-are : responsesOf s room ≡ given (x .totals)
-  pub sampling-is : x .sampling ≡ figureOf (tasksOf s) (chainOf s)
-  pub quick-is : x .«sampling_bound» ≡ quickBound (tasksOf s) (chainOf s)
-  pub worst-is : x .worst ≡ fromFlag (tasksOf s) (chainOf s) (x .sampling .ticks)
-  pub bound-is : x .bound ≡ fromFlag (tasksOf s) (chainOf s) (x .«sampling_bound»)
-  pub margin-is : x .margin ≡ less defaultLimit (x .worst)
+  pub sampling-is : x .sampling ≡ figureOf (tasksOf s) (chainOf s number)
+  pub quick-is : x .«sampling_bound» ≡ quickBound (tasksOf s) (chainOf s number)
+  pub worst-is : x .worst ≡ fromFlag (tasksOf s) (chainOf s number) (x .sampling .ticks)
+  pub bound-is : x .bound ≡ fromFlag (tasksOf s) (chainOf s number) (x .«sampling_bound»)
+  pub margin-is : x .margin ≡ less (reportLimit s number) (x .worst)
 
-pub figures-given : (s : Sheet) (room : ℕ) {x : Summary} → figuresOf s room ≡ given x → FiguresGiven s room x
+pub figures-given : (s : Sheet) (number room : ℕ) {x : Summary} → figuresOf s number room ≡ given x → FiguresGiven s number room x
 unfolding figuresOf
-figures-given s room {x} e = subst (FiguresGiven s room) (cc (found .2)) (record {
-  taken = filled-chain s room (found .1);
+figures-given s number room {x} e = subst (FiguresGiven s number room) (cc (found .2)) (record {
+  known = has;
+  limit-most = report-most (judged-sound s (fields .0)) number has;
+  taken = filled-chain s number room has (found .1);
   totals-are = found .1;
   sampling-is = refl;
   quick-is = refl;
@@ -131,35 +192,48 @@ figures-given s room {x} e = subst (FiguresGiven s room) (cc (found .2)) (record
   margin-is = refl;
 })
   where
-    found : (totals : Totals) × (responsesOf s room ≡ given totals) × (given (summaryOf (tasksOf s) (chainOf s) totals) ≡ given x)
-    found = after-given (responsesOf s room) _ e
+    first : (named s number ≡ fine) × (after (responsesOf s room) (λ totals. given (summaryAt s number totals)) ≡ given x)
+    first = also-given (named s number) _ e
 
-pub delay-given : (s : Sheet) (at room : ℕ) {ticks : ℕ} → delayOf s at room ≡ given ticks → TakenChain (tasksOf s) (chainOf s) × (delayAt (tasksOf s) (chainOf s) at ≡ ticks)
+    fields : (judgeOf s ≡ fine) × (lacks s number ≡ fine)
+    fields = also-given (judgeOf s) (lacks s number) (first .0)
+
+    has : lacks s number ≡ fine
+    has = fields .1
+
+    found : (totals : Totals) × (responsesOf s room ≡ given totals) × (given (summaryAt s number totals) ≡ given x)
+    found = after-given (responsesOf s room) _ (first .1)
+
+-- A delay is given for such a chain, at a multiple of the first task's period.
+pub delay-found : (s : Sheet) (number at room : ℕ) {ticks : ℕ} → delayOf s number at room ≡ given ticks
+    → (lacks s number ≡ fine) × (noRelease (tasksOf s) (chainOf s number) at ≡ false) × ((totals : Totals) × (responsesOf s room ≡ given totals) × (delayAt (tasksOf s) (chainOf s number) at ≡ ticks))
 unfolding delayOf
-delay-given s at room e =
-    let judged = after-given (sizesOf s) _ e in
-    let asked = also-given (when (noRelease (tasksOf s) (chainOf s) at) 12) _ (judged .2) in
+delay-found s number at room e =
+    let first = also-given (named s number) _ e in
+    let judged = after-given (sizesOf s) _ (first .1) in
+    let asked = also-given (when (noRelease (tasksOf s) (chainOf s number) at) 12) _ (judged .2) in
     let filled = after-given (responsesOf s room) _ (asked .1) in
-    (filled-chain s room (filled .1), cc (filled .2))
+    (also-given (judgeOf s) (lacks s number) (first .0) .1, when-fine _ 12 (asked .0), (filled .0, filled .1, cc (filled .2)))
 
--- A delay is given at a multiple of the first task's period.
-pub delay-release : (s : Sheet) (at room : ℕ) {ticks : ℕ} → delayOf s at room ≡ given ticks → at % period (tasksOf s) (firstOf (chainOf s)) ≤ 0
-unfolding delayOf
-delay-release s at room e =
-    go (leb (hyperperiod (tasksOf s)) at) (when-fine _ 12 (also-given (when (noRelease (tasksOf s) (chainOf s) at) 12) _ (after-given (sizesOf s) _ e .2) .0))
+pub delay-given : (s : Sheet) (number at room : ℕ) {ticks : ℕ} → delayOf s number at room ≡ given ticks
+    → TakenChain (tasksOf s) (chainOf s number) × (delayAt (tasksOf s) (chainOf s number) at ≡ ticks)
+delay-given s number at room e = let f = delay-found s number at room e in (filled-chain s number room (f .0) (f .2 .1), f .2 .2)
+
+pub delay-release : (s : Sheet) (number at room : ℕ) {ticks : ℕ} → delayOf s number at room ≡ given ticks → at % period (tasksOf s) (firstOf (chainOf s number)) ≤ 0
+delay-release s number at room e = go (leb (hyperperiod (tasksOf s)) at) (delay-found s number at room e .1)
   where
     T : ℕ
-    T = period (tasksOf s) (firstOf (chainOf s))
+    T = period (tasksOf s) (firstOf (chainOf s number))
 
     go : (b : Bool) → cond b true (ltb 0 (at % T)) ≡ false → at % T ≤ 0
     go true q = absurd (false≢true (sym q))
     go false q = ltb-false 0 (at % T) q
 
-pub margin-given : (s : Sheet) (limit room : ℕ) {z : ℤ} → marginOf s limit room ≡ given z
-    → (x : Summary) × (figuresOf s room ≡ given x) × (less limit (x .worst) ≡ z)
+pub margin-given : (s : Sheet) (number limit room : ℕ) {z : ℤ} → marginOf s number limit room ≡ given z
+    → (x : Summary) × (figuresOf s number room ≡ given x) × (less limit (x .worst) ≡ z)
 unfolding marginOf
-margin-given s limit room e =
-    let judged = after-given (sizesOf s) _ e in
+margin-given s number limit room e =
+    let judged = after-given (sizesOf s) _ (also-given (named s number) _ e .1) in
     let asked = also-given (when (ltb mostLimit limit) 13) _ (judged .2) in
-    let g = after-given (figuresOf s room) _ (asked .1) in
+    let g = after-given (figuresOf s number room) _ (asked .1) in
     (g .0, g .1, cc (g .2))

@@ -2,9 +2,10 @@
 -- (`tableAfter` of schedule). Quotations are from document 01.
 use mathlib.Core.Bool.{Bool, true, cond}
 use mathlib.Core.List.{List}
-use Prim.Native.Nat.{ℕ, _%_}
-use lib.Dec.{ltb, leb}
+use Prim.Native.Nat.{ℕ, _+_, _%_}
+use lib.Dec.{ltb, leb, eqb}
 use lib.IntN.{ℤ, pos, _-ℤ_}
+use lib.ListN.{replicate}
 use Rattle.theory.specs.declared.Task.{Task}
 use Rattle.theory.specs.Model.Schedule.{period}
 use Rattle.theory.specs.Model.Responses.{response, hyperperiod, taskResponse}
@@ -13,8 +14,9 @@ use Rattle.theory.specs.Model.Chain.{delay, sampling, samplingRelease, bound}
 use Rattle.sheet.specs.declared.Sheet.{Sheet}
 use Rattle.answers.specs.declared.Refusal.{Refusal}
 use Rattle.answers.specs.declared.Refusal.the-variants.{Number}
-use Rattle.answers.specs.Answers.{Answer, given, when, after, also, refusal}
-use Rattle.sheet.specs.Tasks.{tasksOf, chainOf, firstOf, restOf}
+use Rattle.answers.specs.Answers.{Answer, given, refused, Judgement, when, after, also, refusal}
+use Rattle.sheet.specs.Calls.{places, judgeOf}
+use Rattle.sheet.specs.Tasks.{tasksOf, chainCount, lacks, chainOf, limitOf, firstOf, restOf}
 use Rattle.schedule.specs.Calls.{sizesOf, responsesOf}
 use Rattle.schedule.specs.declared.answer.Totals.{Totals}
 use Rattle.chain.specs.declared.answer.Figure.{Figure}
@@ -54,13 +56,18 @@ less limit figure = pos limit -ℤ pos figure
 abbrev pub noRelease : List Task → List ℕ → ℕ → Bool
 noRelease ts chain release = cond (leb (hyperperiod ts) release) true (ltb 0 (release % period ts (firstOf chain)))
 
--- "2 to 8", "After that 10, 11, 12, 13, 14, 15, each in the calls that have the thing it judges": the answers for a table of `room` entries.
-unfoldable pub delayOf : Sheet → ℕ → ℕ → Answer ℕ
-delayOf s release room =
-    after (sizesOf s) λ size.
-    also (when (noRelease (tasksOf s) (chainOf s) release) 12)
+-- The fields; "then 17 for a chain number the sheet lacks, before 10" (document 02, P3).
+abbrev pub named : Sheet → ℕ → Judgement
+named s number = also (judgeOf s) (lacks s number)
+
+-- "After that 10, 11, 12, 13, 14, 15, each in the calls that have the thing it judges": the answers for a table of `room` entries.
+unfoldable pub delayOf : Sheet → ℕ → ℕ → ℕ → Answer ℕ
+delayOf s number release room =
+    also (named s number)
+    (after (sizesOf s) λ size.
+    also (when (noRelease (tasksOf s) (chainOf s number) release) 12)
     (after (responsesOf s room) λ totals.
-    given (delayAt (tasksOf s) (chainOf s) release))
+    given (delayAt (tasksOf s) (chainOf s number) release)))
 
 -- "margin limit 0 to 4,000,000"; "The call without a limit uses 1,000 ticks."
 abbrev pub mostLimit : ℕ
@@ -69,34 +76,64 @@ mostLimit = 4000000
 abbrev pub defaultLimit : ℕ
 defaultLimit = 1000
 
+-- The report prints "the margin under its limit"; an old sheet has none, and there it is 1,000.
+abbrev pub oldLimit : ℕ
+oldLimit = 1000
+
+abbrev pub reportLimit : Sheet → ℕ → ℕ
+reportLimit s number = cond (eqb (s .edition) 1) oldLimit (limitOf s number)
+
 -- "one answer with sampling figure, its release, bound and idle" (document 02, P8), and what a report says besides: H, J, and from a flag on
--- "the worst figure", "the bound; the margin under the default limit".
-abbrev pub summaryOf : List Task → List ℕ → Totals → Summary
-summaryOf ts chain totals = record {
+-- "the worst figure", "the bound", and the margin under a limit.
+abbrev pub summaryOf : List Task → List ℕ → ℕ → Totals → Summary
+summaryOf ts chain limit totals = record {
   totals = totals;
   sampling = figureOf ts chain;
   «sampling_bound» = quickBound ts chain;
   worst = fromFlag ts chain (figureOf ts chain .ticks);
   bound = fromFlag ts chain (quickBound ts chain);
-  margin = less defaultLimit (fromFlag ts chain (figureOf ts chain .ticks));
+  margin = less limit (fromFlag ts chain (figureOf ts chain .ticks));
 }
 
--- "The order of refusals is that of the worst figure": 2 to 8, 10, 11, 14, 15.
-unfoldable pub figuresOf : Sheet → ℕ → Answer Summary
-figuresOf s room =
-    after (responsesOf s room) λ totals.
-    given (summaryOf (tasksOf s) (chainOf s) totals)
+abbrev pub summaryAt : Sheet → ℕ → Totals → Summary
+summaryAt s number totals = summaryOf (tasksOf s) (chainOf s number) (reportLimit s number) totals
+
+-- "The order of refusals is that of the worst figure": 10, 11, 14, 15.
+unfoldable pub figuresOf : Sheet → ℕ → ℕ → Answer Summary
+figuresOf s number room =
+    also (named s number)
+    (after (responsesOf s room) λ totals.
+    given (summaryAt s number totals))
 
 -- 13: "the limit is over 4,000,000"
-unfoldable pub marginOf : Sheet → ℕ → ℕ → Answer ℤ
-marginOf s limit room =
-    after (sizesOf s) λ size.
+unfoldable pub marginOf : Sheet → ℕ → ℕ → ℕ → Answer ℤ
+marginOf s number limit room =
+    also (named s number)
+    (after (sizesOf s) λ size.
     also (when (ltb mostLimit limit) 13)
-    (after (figuresOf s room) λ x.
-    given (less limit (x .worst)))
+    (after (figuresOf s number room) λ x.
+    given (less limit (x .worst))))
 
-abbrev pub defaultMarginOf : Sheet → ℕ → Answer ℤ
-defaultMarginOf s room = marginOf s defaultLimit room
+abbrev pub defaultMarginOf : Sheet → ℕ → ℕ → Answer ℤ
+defaultMarginOf s number room = marginOf s number defaultLimit room
+
+-- The same for every chain of the sheet, in eight places: the summary of chain c + 1 in place c; zeros past the last, and with a refusal.
+abbrev pub noSummary : Summary
+noSummary = record {
+  totals = record { hyperperiod = 0; jobs = 0; idle = 0 };
+  sampling = record { ticks = 0; release = 0 };
+  «sampling_bound» = 0;
+  worst = 0;
+  bound = 0;
+  margin = pos 0;
+}
+
+abbrev pub summariesTo : Sheet → Totals → ℕ → List Summary
+summariesTo s totals n = places 8 noSummary n (λ c. summaryAt s (c + 1) totals)
+
+abbrev pub summariesAfter : Answer Totals → Sheet → List Summary
+summariesAfter (given totals) s = summariesTo s totals (chainCount s)
+summariesAfter (refused number values) s = replicate 8 noSummary
 
 -- Document 01's answer for each case of the code's enums.
 abbrev pub toldDelay : Delay → Answer ℕ

@@ -1,9 +1,10 @@
 -- What the functions under the calls promise each other.
 use mathlib.Core.Path.{_≡_}
 use mathlib.Core.Bool.{cond}
-use mathlib.Core.List.{List}
+use mathlib.Core.List.{List, []}
 use Prim.Native.Nat.{ℕ, _+_, _-_, _*_, _%_, _≤_, _<_}
 use lib.Dec.{ltb, eqb}
+use lib.IntN.{ℤ}
 use lib.ListN.{length, getD, drop}
 use Rattle.arith.specs.Whole.{gcd, up}
 use Rattle.theory.specs.declared.Task.{Task}
@@ -12,11 +13,16 @@ use Rattle.theory.specs.Model.Schedule.{period, rank}
 use Rattle.theory.specs.Model.Responses.{jobs}
 use Rattle.theory.specs.Model.Chain.{Chain, Waits, Table, walkNext, walkDelay, walkBound}
 use Rattle.theory.specs.Analysis.Largest.{pairBound}
-use Rattle.sheet.specs.Tasks.{firstOf, restOf}
-use Rattle.schedule.specs.Calls.{mostJobs}
+use Rattle.answers.specs.declared.Verdict.{Verdict}
+use Rattle.answers.specs.declared.Verdict.the-variants.{Fine, No}
+use Rattle.answers.specs.Answers.{Answer, refused, fine, after, also, refusal}
+use Rattle.sheet.specs.declared.Sheet.{Sheet}
+use Rattle.sheet.specs.Tasks.{lacks, firstOf, restOf}
+use Rattle.schedule.specs.Calls.{mostJobs, sizesOf}
 use Rattle.schedule.specs.Taken.{Taken}
 use Rattle.chain.specs.declared.answer.Figure.{Figure}
 use Rattle.chain.specs.declared.answer.HandOver.{HandOver}
+use Rattle.chain.specs.Calls.{named}
 
 -- ---- the largest figures
 
@@ -44,6 +50,15 @@ pub record TakenChain (ts : List Task) (chain : List ℕ) : Type 0 where
   pub tasks : Taken ts
   pub known : Chain ts (firstOf chain) (restOf chain)
   pub few : length chain ≤ 16
+
+-- The sheet has the chain of a number; or the refusal, of a field or for the number.
+abbrev pub Lacking : Sheet → ℕ → Verdict → Type 0
+Lacking s number Fine = lacks s number ≡ fine
+Lacking s number (No r) = named s number ≡ refusal r
+
+-- What is refused up to a limit that is over 4,000,000, and then this.
+abbrev pub overLimit : Sheet → ℕ → Answer ℤ
+overLimit s number = also (named s number) (after (sizesOf s) (λ size. refused 13 []))
 
 -- ---- the plan that the walk reads: of task i its period, its rank, where its row starts and how many jobs it has
 

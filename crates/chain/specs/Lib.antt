@@ -3,6 +3,7 @@ pub mod Calls
 pub mod Promises
 -- The laws of the calls: their refusals, and their answers case by case.
 pub mod NumberLaws
+pub mod SuiteLaws
 pub mod CallLaws
 -- What the functions under the calls require and ensure, and laws of it.
 pub mod Conditions

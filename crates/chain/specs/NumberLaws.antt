@@ -2,35 +2,53 @@
 use Prim.Native.Nat.{ℕ}
 use native.Mathlib.Omega.{arith}
 use lib.Dec.{ltb}
-use Rattle.answers.specs.Answers.{Answer, given, after, refusal}
-use Rattle.answers.specs.NumberLaws.{Numbered, given-numbered, numbered-wider, when-numbered, after-numbered, also-numbered}
+use Rattle.answers.specs.Answers.{Answer, given, after, also, refusal}
+use Rattle.answers.specs.NumberLaws.{Numbered, given-numbered, when-numbered, after-numbered, also-numbered, Never, refused-never, when-never, after-never, also-never}
 use Rattle.sheet.specs.declared.Sheet.{Sheet}
-use Rattle.sheet.specs.Tasks.{tasksOf, chainOf}
+use Rattle.sheet.specs.Fields.{outside}
+use Rattle.sheet.specs.NumberLaws.{judge-numbered}
+use Rattle.sheet.specs.NeverLaws.{judge-never}
+use Rattle.sheet.specs.Tasks.{tasksOf, chainCount, chainOf}
 use Rattle.schedule.specs.declared.answer.Totals.{Totals}
 use Rattle.schedule.specs.declared.answer.Size.{Size}
 use Rattle.schedule.specs.Calls.{sizesOf, responsesOf}
-use Rattle.schedule.specs.NumberLaws.{sizes-numbered, responses-numbered}
-use Rattle.chain.specs.Calls.{delayAt, less, noRelease, summaryOf, mostLimit, delayOf, marginOf, figuresOf}
+use Rattle.schedule.specs.NumberLaws.{sizes-numbered, responses-numbered, sizes-never-15}
+use Rattle.chain.specs.Calls.{delayAt, less, noRelease, named, summaryAt, mostLimit, delayOf, marginOf, figuresOf}
+use Rattle.chain.specs.Conditions.{overLimit}
 
-module _ (s : Sheet) (room : ℕ) where
-  filled-numbered : {A : Type 0} (x : Totals → A) → Numbered 2 15 (after (responsesOf s room) (λ totals. given (x totals)))
-  filled-numbered x = after-numbered (responses-numbered s room) (λ totals. given-numbered (x totals))
+module _ (s : Sheet) (number : ℕ) where
+  -- 15 is given for a late task alone.
+  pub named-never-15 : Never 15 (named s number)
+  named-never-15 =
+      also-never (judge-never 15 (omega arith) (omega arith) (λ e. omega arith) s) (when-never (outside 1 (chainCount s) number) 17 (λ e. omega arith))
 
-  pub figures-numbered : Numbered 2 15 (figuresOf s room)
-  unfolding figuresOf
-  figures-numbered = filled-numbered (summaryOf (tasksOf s) (chainOf s))
+  pub over-never-15 : Never 15 (overLimit s number)
+  over-never-15 = also-never named-never-15 (after-never (sizes-never-15 s) (λ size. refused-never 13 _ (λ e. omega arith)))
 
-  sized-numbered : {A : Type 0} {rest : Size → Answer A} → ((size : Size) → Numbered 2 15 (rest size)) → Numbered 2 15 (after (sizesOf s) rest)
-  sized-numbered n = after-numbered (numbered-wider (sizes-numbered s) (omega arith) (omega arith)) n
+  named-numbered : {A : Type 0} {rest : Answer A} → Numbered 2 17 rest → Numbered 2 17 (also (named s number) rest)
+  named-numbered n = also-numbered (also-numbered (judge-numbered s) (when-numbered (outside 1 (chainCount s) number) 17 (omega arith) (omega arith))) n
 
-  pub delay-numbered : (release : ℕ) → Numbered 2 15 (delayOf s release room)
-  unfolding delayOf
-  delay-numbered release =
-      sized-numbered (λ size. also-numbered (when-numbered (noRelease (tasksOf s) (chainOf s) release) 12 (omega arith) (omega arith))
-      (filled-numbered (λ totals. delayAt (tasksOf s) (chainOf s) release)))
+  module _ (room : ℕ) where
+    filled-numbered : {A : Type 0} (x : Totals → A) → Numbered 2 17 (after (responsesOf s room) (λ totals. given (x totals)))
+    filled-numbered x = after-numbered (responses-numbered s room) (λ totals. given-numbered (x totals))
 
-  pub margin-numbered : (limit : ℕ) → Numbered 2 15 (marginOf s limit room)
-  unfolding marginOf
-  margin-numbered limit =
-      sized-numbered (λ size. also-numbered (when-numbered (ltb mostLimit limit) 13 (omega arith) (omega arith))
-      (after-numbered figures-numbered (λ x. given-numbered (less limit (x .worst)))))
+    sized-numbered : {A : Type 0} {rest : Size → Answer A} → ((size : Size) → Numbered 2 17 (rest size)) → Numbered 2 17 (after (sizesOf s) rest)
+    sized-numbered n = after-numbered (sizes-numbered s) n
+
+    pub figures-numbered : Numbered 2 17 (figuresOf s number room)
+    unfolding figuresOf
+    figures-numbered = named-numbered (filled-numbered (summaryAt s number))
+
+    pub delay-numbered : (release : ℕ) → Numbered 2 17 (delayOf s number release room)
+    unfolding delayOf
+    delay-numbered release =
+        named-numbered
+        (sized-numbered (λ size. also-numbered (when-numbered (noRelease (tasksOf s) (chainOf s number) release) 12 (omega arith) (omega arith))
+        (filled-numbered (λ totals. delayAt (tasksOf s) (chainOf s number) release))))
+
+    pub margin-numbered : (limit : ℕ) → Numbered 2 17 (marginOf s number limit room)
+    unfolding marginOf
+    margin-numbered limit =
+        named-numbered
+        (sized-numbered (λ size. also-numbered (when-numbered (ltb mostLimit limit) 13 (omega arith) (omega arith))
+        (after-numbered figures-numbered (λ x. given-numbered (less limit (x .worst))))))

@@ -10,11 +10,11 @@ use Rattle.theory.specs.Model.Responses.{taskResponse}
 use Rattle.theory.specs.Model.Recurrence.{quickResponse, Passing}
 use Rattle.theory.specs.Analysis.QuickLaws.{quick-response-task, passing-late-task, late-task-passing, accepted-within}
 use Rattle.theory.specs.Results.QuickBound.{quick-bound-same}
-use Rattle.answers.specs.Answers.{given, refused}
+use Rattle.answers.specs.Answers.{given, refused, fine}
 use Rattle.sheet.specs.declared.Sheet.{Sheet}
 use Rattle.sheet.specs.PlaceLaws.{places-same}
 use Rattle.sheet.specs.SoundLaws.{judged-sound}
-use Rattle.sheet.specs.Tasks.{tasksOf, chainOf, firstOf, restOf}
+use Rattle.sheet.specs.Tasks.{tasksOf, lacks, chainOf, firstOf, restOf}
 use Rattle.sheet.specs.TaskLaws.{tasks-length, sound-proper, chain-known}
 use Rattle.schedule.specs.declared.answer.Totals.{Totals}
 use Rattle.schedule.specs.declared.answer.Size.{Size}
@@ -29,36 +29,38 @@ use Rattle.chain.specs.declared.answer.Summary.{Summary}
 use Rattle.chain.specs.Calls.{quickBound, fromFlag, figuresOf}
 use Rattle.chain.specs.CallLaws.{figures-given}
 
--- A bound of this many ticks, from a release on, and with the flag's wait.
-abbrev pub withWait : Sheet → ℕ → Bounds
-withWait s b = record { «sampling_bound» = b; bound = fromFlag (tasksOf s) (chainOf s) b }
+module _ (s : Sheet) (number : ℕ) where
+  -- A bound of this many ticks, from a release on, and with the flag's wait.
+  abbrev pub withWait : ℕ → Bounds
+  withWait b = record { «sampling_bound» = b; bound = fromFlag (tasksOf s) (chainOf s number) b }
 
--- Where the table is filled the quick bound is document 01's, from the R of each task,
-filled-quick : (s : Sheet) (room : ℕ) {totals : Totals} → responsesOf s room ≡ given totals → quickOf s ≡ given (withWait s (quickBound (tasksOf s) (chainOf s)))
-filled-quick s room e =
-    let g = responses-given s room e in
-    given-quick s (record {
-      judged-fine = g .judged-fine;
-      none-passing = accepted-within (g .accepted);
-      bounds-are = ap (withWait s) (quick-bound-same (g .accepted .proper) (firstOf (chainOf s)) (restOf (chainOf s)) (chain-known (judged-sound s (g .judged-fine))));
-    })
+  module _ (known : lacks s number ≡ fine) (room : ℕ) where
+    -- Where the table is filled the quick bound is document 01's, from the R of each task,
+    filled-quick : {totals : Totals} → responsesOf s room ≡ given totals → quickOf s number ≡ given (withWait (quickBound (tasksOf s) (chainOf s number)))
+    filled-quick e =
+        let g = responses-given s room e in
+        given-quick s number (record {
+          judged-fine = g .judged-fine;
+          numbered-fine = known;
+          none-passing = accepted-within (g .accepted);
+          bounds-are = ap withWait (quick-bound-same (g .accepted .proper) (firstOf (chainOf s number)) (restOf (chainOf s number)) (chain-known (judged-sound s (g .judged-fine)) number known));
+        })
 
--- and each value is the greatest response in its task's row.
-pub quick-responses-same : (s : Sheet) (room : ℕ) {totals : Totals} → responsesOf s room ≡ given totals
-    → responsesAfter (quickOf s) s ≡ greatestAfter (responsesOf s room) s
-quick-responses-same s room e =
-    let g = responses-given s room e in
-    let sound = judged-sound s (g .judged-fine) in
-    ap (λ a. responsesAfter a s) (filled-quick s room e)
-    ∙ places-same 0 (s .count) (quickResponse (tasksOf s)) (taskResponse (tasksOf s)) (λ i l m. quick-response-task (g .accepted .proper) i (omega (arith, tasks-length sound)))
-    ∙ sym (ap (λ a. greatestAfter a s) e)
+    -- and each value is the greatest response in its task's row.
+    pub quick-responses-same : {totals : Totals} → responsesOf s room ≡ given totals → responsesAfter (quickOf s number) s ≡ greatestAfter (responsesOf s room) s
+    quick-responses-same e =
+        let g = responses-given s room e in
+        let sound = judged-sound s (g .judged-fine) in
+        ap (λ a. responsesAfter a s) (filled-quick e)
+        ∙ places-same 16 0 (s .count) (quickResponse (tasksOf s)) (taskResponse (tasksOf s)) (λ i l m. quick-response-task (g .accepted .proper) i (omega (arith, tasks-length sound)))
+        ∙ sym (ap (λ a. greatestAfter a s) e)
 
--- Where `figures` answers, both bounds are its own.
-pub quick-bound-is-reported : (s : Sheet) (room : ℕ) {x : Summary} (answer : figuresOf s room ≡ given x)
-    → quickOf s ≡ given (record { «sampling_bound» = x .«sampling_bound»; bound = x .bound })
-quick-bound-is-reported s room answer =
-    let g = figures-given s room answer in
-    rw (g .bound-is, g .quick-is) (filled-quick s room (g .totals-are))
+  -- Where `figures` answers, both bounds are its own.
+  pub quick-bound-is-reported : (room : ℕ) {x : Summary} (answer : figuresOf s number room ≡ given x)
+      → quickOf s number ≡ given (record { «sampling_bound» = x .«sampling_bound»; bound = x .bound })
+  quick-bound-is-reported room answer =
+      let g = figures-given s number room answer in
+      rw (g .bound-is, g .quick-is) (filled-quick (g .known) room (g .totals-are))
 
 -- ---- 15
 
@@ -67,28 +69,29 @@ late-greatest : {ts : List Task} → Proper ts → {i : ℕ} → GreatestLate ts
 late-greatest good {i} g =
     (g .known, late-task-passing good i (g .known) (g .is-late), λ j l p. g .greatest-rank j l (passing-late-task good j l p))
 
--- Where the table's calls name a late task, this one names it too,
-pub table-late-quick : (s : Sheet) (room : ℕ) {i : ℕ} (answer : responsesOf s room ≡ refused 15 (i ∷ [])) → quickOf s ≡ refused 15 (i ∷ [])
-table-late-quick s room answer =
-    let w = responses-15 s room answer in
-    let g = late-greatest (sound-proper (judged-sound s (w .judged-fine))) (w .greatest-late) in
-    late-quick s (record { judged-fine = w .judged-fine; known = g .0; passing = g .1; greatest-rank = g .2 })
+module _ (s : Sheet) (number room : ℕ) {i : ℕ} where
+  -- Where the table's calls name a late task, this one names it too, for each chain that the sheet has,
+  pub table-late-quick : lacks s number ≡ fine → responsesOf s room ≡ refused 15 (i ∷ []) → quickOf s number ≡ refused 15 (i ∷ [])
+  table-late-quick known answer =
+      let w = responses-15 s room answer in
+      let g = late-greatest (sound-proper (judged-sound s (w .judged-fine))) (w .greatest-late) in
+      late-quick s number (record { judged-fine = w .judged-fine; numbered-fine = known; known = g .0; passing = g .1; greatest-rank = g .2 })
 
--- and the other way round, where they come to judge it.
-pub quick-late-table : (s : Sheet) (room : ℕ) {size : Size} (sized : sizesOf s ≡ given size) (enough : size .jobs ≤ room) {i : ℕ}
-    (answer : quickOf s ≡ refused 15 (i ∷ [])) → responsesOf s room ≡ refused 15 (i ∷ [])
-quick-late-table s room sized enough {i} answer =
-    let z = sizes-given s sized in
-    let w = quick-15 s answer in
-    let good = sound-proper (judged-sound s (w .judged-fine)) in
-    late-responses s room (record {
-      judged-fine = z .judged-fine;
-      hyperperiod-most = z .hyperperiod-most;
-      jobs-most = z .jobs-most;
-      jobs-fit = omega (arith, z .jobs-are);
-      greatest-late = record {
-        known = w .known;
-        is-late = passing-late-task good i (w .known) (w .passing);
-        greatest-rank = λ j l late. w .greatest-rank j l (late-task-passing good j l late);
-      };
-    })
+  -- and the other way round, where they come to judge it.
+  pub quick-late-table : {size : Size} (sized : sizesOf s ≡ given size) (enough : size .jobs ≤ room)
+      (answer : quickOf s number ≡ refused 15 (i ∷ [])) → responsesOf s room ≡ refused 15 (i ∷ [])
+  quick-late-table sized enough answer =
+      let z = sizes-given s sized in
+      let w = quick-15 s number answer in
+      let good = sound-proper (judged-sound s (w .judged-fine)) in
+      late-responses s room (record {
+        judged-fine = z .judged-fine;
+        hyperperiod-most = z .hyperperiod-most;
+        jobs-most = z .jobs-most;
+        jobs-fit = omega (arith, z .jobs-are);
+        greatest-late = record {
+          known = w .known;
+          is-late = passing-late-task good i (w .known) (w .passing);
+          greatest-rank = λ j l late. w .greatest-rank j l (late-task-passing good j l late);
+        };
+      })

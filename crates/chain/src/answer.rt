@@ -1,5 +1,6 @@
 // What the calls and the functions under them answer.
 use answers::Refusal;
+use schedule::Responses;
 use schedule::Totals;
 
 // The ticks from the release of the chain's first job to the finish of its last.
@@ -27,7 +28,7 @@ pub enum Margin {
 }
 
 // What one filling of the table gives: H, J and the idle ticks; the sampling figure and its bound, which count from a release; and the
-// worst, the bound and the margin under the default limit, which count from a flag.
+// worst, the bound and the margin under the chain's limit in a report, which count from a flag.
 pub struct Summary {
     pub totals: Totals,
     pub sampling: Figure,
@@ -46,6 +47,13 @@ pub enum Figures {
 pub struct TaskFigures {
     pub answer: Figures,
     pub greatest: [u32; 16],
+}
+
+// What a report says: the job table's answer with the greatest response of each task, and the figures of each chain in its place.
+pub struct Suite {
+    pub answer: Responses,
+    pub greatest: [u32; 16],
+    pub chains: [Summary; 8],
 }
 
 // The job of the next task that a path goes on to, and how long it is from the producer's release to its own.

@@ -9,29 +9,37 @@ use answer::FigureAndBound;
 pub use answer::Figures;
 use answer::HandOver;
 pub use answer::Margin;
+pub use answer::Suite;
 pub use answer::Summary;
 pub use answer::TaskFigures;
 use answers::Refusal;
+use answers::Verdict;
 use schedule::Responses;
 use schedule::Sizes;
+use schedule::Totals;
+use sheet::Chain;
 use sheet::Sheet;
 ghost use mathlib.Core.Path.{_≡_};
-ghost use Prim.Native.Nat.{_+_, _*_, _≤_, _<_};
-ghost use lib.ListN.{length};
+ghost use Prim.Native.Nat.{_+_, _-_, _*_, _≤_, _<_};
+ghost use lib.ListN.{length, replicate};
 ghost use Rattle.theory.specs.Model.Responses.{hyperperiod, jobs};
 ghost use Rattle.theory.specs.Model.Schedule.{period, release};
 ghost use Rattle.sheet.specs.Sound.{Sound};
-ghost use Rattle.sheet.specs.Tasks.{tasksOf, chainOf, firstOf};
+ghost use Rattle.answers.specs.Answers.{fine, refusal};
+ghost use Rattle.sheet.specs.Tasks.{tasksOf, chainCount, lacks, chainAt, chainOf, firstOf};
 ghost use Rattle.schedule.specs.Calls.{mostTicks};
-ghost use Rattle.chain.specs.Calls.{delayAt, figureOf, quickBound, fromFlag, less, mostLimit};
-ghost use Rattle.chain.specs.Promises.{DelayPromise, MarginPromise, DefaultMarginPromise, FiguresPromise, DelayRefusalPromise, MarginRefusalPromise, FiguresRefusalPromise};
+ghost use Rattle.chain.specs.Calls.{delayAt, figureOf, quickBound, less, mostLimit, reportLimit, summaryAt, noSummary, summariesTo};
+ghost use Rattle.chain.specs.Promises.{DelayPromise, MarginPromise, DefaultMarginPromise, FiguresPromise, SuitePromise, DelayRefusalPromise, MarginRefusalPromise, FiguresRefusalPromise};
 ghost use Rattle.schedule.specs.Taken.{Taken, Holds};
-ghost use Rattle.chain.specs.Conditions.{mostPeriod, mostWait, mostFigure, mostWorst, mostRelease, periodIn, countIn, rowsIn, greatestIn, delayIn, boundIn, pairIn, onward, ahead, HandedOver, FirstHandedOver, RowIn, TaskIn, ChainIn, Greatest, Planned};
+ghost use Rattle.chain.specs.Conditions.{mostPeriod, mostWait, mostFigure, mostWorst, mostRelease, periodIn, countIn, rowsIn, greatestIn, delayIn, boundIn, pairIn, onward, ahead, Lacking, overLimit, HandedOver, FirstHandedOver, RowIn, TaskIn, ChainIn, Greatest, Planned};
 
 // "margin limit 0 to 4,000,000"
 const MOST_LIMIT: u32 = 4000000;
 
 const DEFAULT_LIMIT: u32 = 1000;
+
+// The limit of an old sheet's chain in a report.
+const OLD_LIMIT: u32 = 1000;
 
 // Of each task i four numbers, from place 4 · i on: its period, its rank, where its row starts and how many jobs it has.
 fn plan_of(s: Sheet, h: u32) -> [u32; 64]
@@ -197,53 +205,79 @@ fn bound_along(chain: &[u8], plan: &[u32; 64], table: &[u32]) -> u32
     ticks + bound_along(&chain[1..], plan, table)
 }
 
-// The delay of the sheet's chain at job k of its first task.
-fn delay_in(s: Sheet, h: u32, k: u32, table: &[u32]) -> u32
+// The chain of a number.
+fn chain_of(s: Sheet, number: u8) -> Chain
+    requires { ⌜ Sound s ⌝ }
+    requires { ⌜ lacks s number ≡ fine ⌝ }
+    ensures { λ r. ⌜ (r ≡ chainAt s number) × (length (r .entries) ≡ 16) ⌝ }
+{
+    let place = number as usize - 1;
+    s.chains[place]
+}
+
+// The delay of a chain at job k of its first task.
+fn delay_in(s: Sheet, number: u8, h: u32, k: u32, table: &[u32]) -> u32
     requires { ⌜ Sound s × Taken (tasksOf s) ⌝ }
+    requires { ⌜ lacks s number ≡ fine ⌝ }
     requires { ⌜ h ≡ hyperperiod (tasksOf s) ⌝ }
     requires { ⌜ Holds (tasksOf s) (now table) ⌝ }
-    requires { ⌜ k < jobs (tasksOf s) (firstOf (chainOf s)) ⌝ }
-    ensures { λ r. ⌜ r ≡ delayAt (tasksOf s) (chainOf s) (release (tasksOf s) (firstOf (chainOf s)) k) ⌝ }
+    requires { ⌜ k < jobs (tasksOf s) (firstOf (chainOf s number)) ⌝ }
+    ensures { λ r. ⌜ r ≡ delayAt (tasksOf s) (chainOf s number) (release (tasksOf s) (firstOf (chainOf s number)) k) ⌝ }
 {
     let plan = plan_of(s, h);
-    let chain = s.chain;
-    let m = s.length as usize;
+    let c = chain_of(s, number);
+    let chain = c.entries;
+    let m = c.length as usize;
     walk(&chain[..m], k, &plan, table)
 }
 
-// The sampling figure of the sheet's chain, and its quick bound.
-fn figure_and_bound(s: Sheet, h: u32, table: &[u32]) -> FigureAndBound
+// The sampling figure of a chain, and its quick bound.
+fn figure_and_bound(s: Sheet, number: u8, h: u32, table: &[u32]) -> FigureAndBound
     requires { ⌜ Sound s × Taken (tasksOf s) ⌝ }
+    requires { ⌜ lacks s number ≡ fine ⌝ }
     requires { ⌜ h ≡ hyperperiod (tasksOf s) ⌝ }
     requires { ⌜ Holds (tasksOf s) (now table) ⌝ }
-    ensures { λ r. ⌜ (r .figure ≡ figureOf (tasksOf s) (chainOf s)) × (r .bound ≡ quickBound (tasksOf s) (chainOf s)) ⌝ }
+    ensures { λ r. ⌜ (r .figure ≡ figureOf (tasksOf s) (chainOf s number)) × (r .bound ≡ quickBound (tasksOf s) (chainOf s number)) ⌝ }
 {
     let plan = plan_of(s, h);
-    let chain = s.chain;
-    let m = s.length as usize;
+    let c = chain_of(s, number);
+    let chain = c.entries;
+    let m = c.length as usize;
     let figure = sampling_along(&chain[..m], &plan, table);
     let bound = bound_along(&chain[..m], &plan, table);
     FigureAndBound { figure, bound }
 }
 
-// T of the chain's first task.
-fn first_period(s: Sheet) -> u32
+// T of a chain's first task.
+fn first_period(s: Sheet, number: u8) -> u32
     requires { ⌜ Sound s ⌝ }
-    ensures { λ r. ⌜ (r ≡ period (tasksOf s) (firstOf (chainOf s))) × (0 < r) × (r ≤ mostPeriod) ⌝ }
+    requires { ⌜ lacks s number ≡ fine ⌝ }
+    ensures { λ r. ⌜ (r ≡ period (tasksOf s) (firstOf (chainOf s number))) × (0 < r) × (r ≤ mostPeriod) ⌝ }
 {
-    let chain = s.chain;
+    let c = chain_of(s, number);
+    let chain = c.entries;
     let p = chain[0] as usize;
     s.tasks[p].period
 }
 
 // What counts from a release of the chain's first task, counted from a flag: "add T − 1 of the first task".
-fn from_flag(s: Sheet, ticks: u32) -> u32
-    requires { ⌜ Sound s ⌝ }
-    requires { ⌜ ticks ≤ mostFigure ⌝ }
-    ensures { λ r. ⌜ r ≡ fromFlag (tasksOf s) (chainOf s) ticks ⌝ }
+fn from_flag(period: u32, ticks: u32) -> u32
+    requires { ⌜ (0 < period) × (period ≤ mostPeriod) × (ticks ≤ mostFigure) ⌝ }
+    ensures { λ r. ⌜ r ≡ ticks + (period - 1) ⌝ }
 {
-    let period = first_period(s);
     ticks + (period - 1)
+}
+
+// "the margin under its limit", and for an old sheet under 1,000.
+fn report_limit(s: Sheet, number: u8) -> u32
+    requires { ⌜ Sound s ⌝ }
+    requires { ⌜ lacks s number ≡ fine ⌝ }
+    ensures { λ r. ⌜ (r ≡ reportLimit s number) × (r ≤ mostLimit) ⌝ }
+{
+    if s.edition == 1 {
+        return OLD_LIMIT;
+    }
+    chain_of(s, number).limit
 }
 
 // Both numbers are "cast to i32 without loss and subtracted".
@@ -252,6 +286,45 @@ fn less_of(limit: u32, figure: u32) -> i32
     ensures { λ r. ⌜ r ≡ less limit figure ⌝ }
 {
     limit as i32 - figure as i32
+}
+
+// What a report says of a chain.
+fn summary_of(s: Sheet, number: u8, totals: Totals, table: &[u32]) -> Summary
+    requires { ⌜ Sound s × Taken (tasksOf s) ⌝ }
+    requires { ⌜ lacks s number ≡ fine ⌝ }
+    requires { ⌜ totals .hyperperiod ≡ hyperperiod (tasksOf s) ⌝ }
+    requires { ⌜ Holds (tasksOf s) (now table) ⌝ }
+    ensures { λ r. ⌜ r ≡ summaryAt s number totals ⌝ }
+{
+    let pair = figure_and_bound(s, number, totals.hyperperiod, table);
+    let sampling = pair.figure;
+    let period = first_period(s, number);
+    let worst = from_flag(period, sampling.ticks);
+    let bound = from_flag(period, pair.bound);
+    let margin = less_of(report_limit(s, number), worst);
+    Summary {
+        totals,
+        sampling,
+        sampling_bound: pair.bound,
+        worst,
+        bound,
+        margin,
+    }
+}
+
+// 17 for a number that the sheet lacks, after the fields; where it has the chain these are left to what follows.
+fn lacking(s: Sheet, number: u8) -> Verdict
+    ensures { λ r. ⌜ Lacking s number r ⌝ }
+{
+    let v = sheet::numbered(s, number);
+    let Verdict::No(_) = v else {
+        return Verdict::Fine;
+    };
+    let fields = sheet::judge(s);
+    let Verdict::Fine = fields else {
+        return fields;
+    };
+    v
 }
 
 // The refusal in an answer that gives nothing else. Number 0, which no refusal has, stands for none.
@@ -282,10 +355,14 @@ pub fn figures_refusal(f: Figures) -> Refusal
     r
 }
 
-// The delay of the sheet's chain at a release of its first task.
-pub fn delay(s: Sheet, release: u32, table: &mut [u32]) -> Delay
-    ensures { λ r. ⌜ DelayPromise s release (now (table .entry)) r (now (table .exit)) ⌝ }
+// The delay of a chain at a release of its first task.
+pub fn delay(s: Sheet, number: u8, release: u32, table: &mut [u32]) -> Delay
+    ensures { λ r. ⌜ DelayPromise s number release (now (table .entry)) r (now (table .exit)) ⌝ }
 {
+    let v = lacking(s, number);
+    let Verdict::Fine = v else {
+        return Delay::No(answers::refusal_of(v));
+    };
     let z = schedule::sizes(s);
     let Sizes::Of(size) = z else {
         return Delay::No(schedule::sizes_refusal(z));
@@ -293,7 +370,7 @@ pub fn delay(s: Sheet, release: u32, table: &mut [u32]) -> Delay
     if size.hyperperiod <= release {
         return Delay::No(Refusal::Number(12));
     }
-    let period = first_period(s);
+    let period = first_period(s, number);
     if 0 < release % period {
         return Delay::No(Refusal::Number(12));
     }
@@ -301,13 +378,21 @@ pub fn delay(s: Sheet, release: u32, table: &mut [u32]) -> Delay
     let Responses::Table(totals) = filled else {
         return Delay::No(schedule::responses_refusal(filled));
     };
-    Delay::Ticks(delay_in(s, totals.hyperperiod, release / period, &*table))
+    Delay::Ticks(delay_in(s, number, totals.hyperperiod, release / period, &*table))
 }
 
-// What one filling of the table gives, with "R, the greatest response" of each task in its place; zeros where it is refused.
-pub fn figures(s: Sheet, table: &mut [u32]) -> TaskFigures
-    ensures { λ r. ⌜ FiguresPromise s (now (table .entry)) r (now (table .exit)) ⌝ }
+// What one filling of the table gives of a chain, with "R, the greatest response" of each task in its place; zeros where it is refused.
+pub fn figures(s: Sheet, number: u8, table: &mut [u32]) -> TaskFigures
+    ensures { λ r. ⌜ FiguresPromise s number (now (table .entry)) r (now (table .exit)) ⌝ }
 {
+    let v = lacking(s, number);
+    let Verdict::Fine = v else {
+        let refusal = answers::refusal_of(v);
+        return TaskFigures {
+            answer: Figures::No(refusal),
+            greatest: [0u32; 16],
+        };
+    };
     let filled = schedule::task_responses(s, &mut *table);
     let answer = filled.answer;
     let greatest = filled.greatest;
@@ -318,37 +403,111 @@ pub fn figures(s: Sheet, table: &mut [u32]) -> TaskFigures
             greatest,
         };
     };
-    let pair = figure_and_bound(s, totals.hyperperiod, &*table);
-    let sampling = pair.figure;
-    let worst = from_flag(s, sampling.ticks);
-    let bound = from_flag(s, pair.bound);
-    let margin = less_of(DEFAULT_LIMIT, worst);
-    let summary = Summary {
-        totals,
-        sampling,
-        sampling_bound: pair.bound,
-        worst,
-        bound,
-        margin,
-    };
+    let summary = summary_of(s, number, totals, &*table);
     TaskFigures {
         answer: Figures::Of(summary),
         greatest,
     }
 }
 
+// How many chains the sheet has.
+fn chain_count(s: Sheet) -> u8
+    ensures { λ r. ⌜ r ≡ chainCount s ⌝ }
+{
+    if s.edition == 1 {
+        return 1;
+    }
+    s.suite
+}
+
+// Eight places of zeros.
+fn no_summaries() -> [Summary; 8]
+    ensures { λ r. ⌜ r ≡ replicate 8 noSummary ⌝ }
+{
+    let totals = Totals {
+        hyperperiod: 0,
+        jobs: 0,
+        idle: 0,
+    };
+    let sampling = Figure {
+        ticks: 0,
+        release: 0,
+    };
+    let none = Summary {
+        totals,
+        sampling,
+        sampling_bound: 0,
+        worst: 0,
+        bound: 0,
+        margin: 0,
+    };
+    [none; 8]
+}
+
+// What a report says of each chain, from one table.
+fn each_summary(s: Sheet, totals: Totals, table: &[u32]) -> [Summary; 8]
+    requires { ⌜ Sound s × Taken (tasksOf s) ⌝ }
+    requires { ⌜ totals .hyperperiod ≡ hyperperiod (tasksOf s) ⌝ }
+    requires { ⌜ Holds (tasksOf s) (now table) ⌝ }
+    ensures { λ r. ⌜ r ≡ summariesTo s totals (chainCount s) ⌝ }
+{
+    let n = chain_count(s);
+    let mut chains = no_summaries();
+    let mut c = 0u8;
+    while c < n {
+        let place = c as usize;
+        chains[place] = summary_of(s, c + 1, totals, table);
+        c += 1;
+    }
+    chains
+}
+
+// What a report says: one filling of the table, however many chains there are; zeros where it is refused.
+pub fn suite(s: Sheet, table: &mut [u32]) -> Suite
+    ensures { λ r. ⌜ SuitePromise s (now (table .entry)) r (now (table .exit)) ⌝ }
+{
+    let filled = schedule::task_responses(s, &mut *table);
+    let answer = filled.answer;
+    let greatest = filled.greatest;
+    let Responses::Table(totals) = answer else {
+        let chains = no_summaries();
+        return Suite {
+            answer,
+            greatest,
+            chains,
+        };
+    };
+    let chains = each_summary(s, totals, &*table);
+    Suite {
+        answer,
+        greatest,
+        chains,
+    }
+}
+
+// The refusal of a limit that is over 4,000,000, or what is refused before it.
+fn over_limit(s: Sheet, number: u8) -> Refusal
+    ensures { λ r. ⌜ refusal r ≡ overLimit s number ⌝ }
+{
+    let v = lacking(s, number);
+    let Verdict::Fine = v else {
+        return answers::refusal_of(v);
+    };
+    let z = schedule::sizes(s);
+    let Sizes::Of(_) = z else {
+        return schedule::sizes_refusal(z);
+    };
+    Refusal::Number(13)
+}
+
 // A limit less the worst from a flag on: "the sign tells whether the limit is kept".
-pub fn margin(s: Sheet, limit: u32, table: &mut [u32]) -> Margin
-    ensures { λ r. ⌜ MarginPromise s limit (now (table .entry)) r (now (table .exit)) ⌝ }
+pub fn margin(s: Sheet, number: u8, limit: u32, table: &mut [u32]) -> Margin
+    ensures { λ r. ⌜ MarginPromise s number limit (now (table .entry)) r (now (table .exit)) ⌝ }
 {
     if MOST_LIMIT < limit {
-        let z = schedule::sizes(s);
-        let Sizes::Of(_) = z else {
-            return Margin::No(schedule::sizes_refusal(z));
-        };
-        return Margin::No(Refusal::Number(13));
+        return Margin::No(over_limit(s, number));
     }
-    let filled = figures(s, &mut *table);
+    let filled = figures(s, number, &mut *table);
     let answer = filled.answer;
     let Figures::Of(summary) = answer else {
         return Margin::No(figures_refusal(answer));
@@ -357,8 +516,8 @@ pub fn margin(s: Sheet, limit: u32, table: &mut [u32]) -> Margin
 }
 
 // "The call without a limit uses 1,000 ticks."
-pub fn default_margin(s: Sheet, table: &mut [u32]) -> Margin
-    ensures { λ r. ⌜ DefaultMarginPromise s (now (table .entry)) r (now (table .exit)) ⌝ }
+pub fn default_margin(s: Sheet, number: u8, table: &mut [u32]) -> Margin
+    ensures { λ r. ⌜ DefaultMarginPromise s number (now (table .entry)) r (now (table .exit)) ⌝ }
 {
-    margin(s, DEFAULT_LIMIT, &mut *table)
+    margin(s, number, DEFAULT_LIMIT, &mut *table)
 }

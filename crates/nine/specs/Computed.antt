@@ -23,11 +23,12 @@ use Rattle.sheet.specs.declared.Sheet.{Sheet}
 use Rattle.answers.specs.Answers.{Answer, given, refused, Judgement, fine, when, after, also}
 use Rattle.sheet.specs.Calls.{judgeOf}
 use Rattle.sheet.specs.SoundLaws.{judged-sound}
-use Rattle.sheet.specs.Tasks.{tasksOf, chainOf, firstOf, restOf, lateness}
+use Rattle.sheet.specs.Tasks.{tasksOf, lacks, chainOf, firstOf, restOf}
+use Rattle.sheet.specs.Lateness.{lateness}
 use Rattle.sheet.specs.TaskLaws.{sound-proper, chain-known}
 use Rattle.schedule.specs.Calls.{mostTicks, mostJobs, lateTask, lateGreatest, sizesOf, responsesOf, rows}
 use Rattle.schedule.specs.Lateness.{job-late, late-job}
-use Rattle.chain.specs.Calls.{figureOf, quickBound, summaryOf, figuresOf}
+use Rattle.chain.specs.Calls.{figureOf, quickBound, summaryAt, figuresOf}
 use Rattle.nine.specs.Outcome.{Figures, outcomeOf}
 
 -- ---- by clearing times
@@ -52,11 +53,12 @@ unfoldable pub computedOf : Sheet → Answer Figures
 computedOf s =
     let ts = tasksOf s in
     also (judgeOf s)
+    (also (lacks s 1)
     (also (when (ltb mostTicks (hyperperiod ts)) 10)
     (also (when (ltb mostJobs (allJobs ts)) 11)
     (also (when (ltb mostJobs (allJobs ts)) 14)
     (also (lateness (greatest (rank ts) (lateBy ts) (length ts)))
-    (given (figuresBy ts (firstOf (chainOf s)) (restOf (chainOf s))))))))
+    (given (figuresBy ts (firstOf (chainOf s 1)) (restOf (chainOf s 1)))))))))
 
 -- ---- they are the definitions'
 
@@ -108,6 +110,12 @@ also-into : {A B C : Type 0} (j : Judgement) (a : Answer A) (f : A → Answer B)
 also-into (given u) a f g = refl
 also-into (refused number values) a f g = refl
 
+-- the fields are judged before the chain's number, and again with the rest
+named-first : {A B : Type 0} (j k : Judgement) (a : Answer A) (g : A → Answer B) (b : Answer B) → after a g ≡ also j b → after (also (also j k) a) g ≡ also j (also k b)
+named-first (given u) (given v) a g b e = e
+named-first (given u) (refused number values) a g b e = refl
+named-first (refused number values) k a g b e = refl
+
 -- what is fine so far decides what is asked next
 also-fine : {A : Type 0} (j : Judgement) (a b : Answer A) → (j ≡ fine → a ≡ b) → also j a ≡ also j b
 also-fine (given tt) a b h = h refl
@@ -123,33 +131,36 @@ module _ (s : Sheet) where
   figures : Figures
   figures = record {
     table = rows ts (length ts);
-    sampling = figureOf ts (chainOf s) .ticks;
-    release = figureOf ts (chainOf s) .release;
-    bound = quickBound ts (chainOf s);
+    sampling = figureOf ts (chainOf s 1) .ticks;
+    release = figureOf ts (chainOf s 1) .release;
+    bound = quickBound ts (chainOf s 1);
   }
 
   outcome-judged :
       outcomeOf s
       ≡ also (judgeOf s)
+      (also (lacks s 1)
       (also (when (ltb mostTicks (hyperperiod ts)) 10)
       (also (when (ltb mostJobs (allJobs ts)) 11)
       (also (when (ltb mostJobs (allJobs ts)) 14)
-      (also late (given figures)))))
+      (also late (given figures))))))
   unfolding outcomeOf figuresOf responsesOf sizesOf figures
   outcome-judged =
-      part (responsesOf s mostJobs) (summaryOf ts (chainOf s)) (λ x. record { table = rows ts (length ts); sampling = x .sampling .ticks; release = x .sampling .release; bound = x .«sampling_bound» })
+      named-first (judgeOf s) (lacks s 1) _ _ _
+      (part (responsesOf s mostJobs) (summaryAt s 1) (λ x. record { table = rows ts (length ts); sampling = x .sampling .ticks; release = x .sampling .release; bound = x .«sampling_bound» })
       ∙ also-into (judgeOf s) _ _ _
       ∙ ap (also (judgeOf s)) (also-into (when (ltb mostTicks (hyperperiod ts)) 10) _ _ _
       ∙ ap (also (when (ltb mostTicks (hyperperiod ts)) 10)) (also-into (when (ltb mostJobs (allJobs ts)) 11) _ _ _
       ∙ ap (also (when (ltb mostJobs (allJobs ts)) 11)) (also-after (when (ltb mostJobs (allJobs ts)) 14) _ _
-      ∙ ap (also (when (ltb mostJobs (allJobs ts)) 14)) (also-after late _ _))))
+      ∙ ap (also (when (ltb mostJobs (allJobs ts)) 14)) (also-after late _ _)))))
 
 pub outcome-computed : (s : Sheet) → outcomeOf s ≡ computedOf s
 unfolding computedOf figures
 outcome-computed s =
     outcome-judged s
     ∙ also-fine (judgeOf s) _ _ (λ e.
+    also-fine (lacks s 1) _ _ (λ known.
     let good = sound-proper (judged-sound s e) in
     ap₂ (λ x y. also (when (ltb mostTicks (hyperperiod (tasksOf s))) 10) (also (when (ltb mostJobs (allJobs (tasksOf s))) 11) (also (when (ltb mostJobs (allJobs (tasksOf s))) 14) (also (lateness x) (given y)))))
     (greatest-cleared good (length (tasksOf s)) (omega arith))
-    (figures-cleared good (firstOf (chainOf s)) (restOf (chainOf s)) (chain-known (judged-sound s e))))
+    (figures-cleared good (firstOf (chainOf s 1)) (restOf (chainOf s 1)) (chain-known (judged-sound s e) 1 known))))

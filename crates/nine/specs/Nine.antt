@@ -13,23 +13,24 @@ use Rattle.theory.specs.Model.Greatest.{greatest}
 use Rattle.theory.specs.Analysis.Clearing.{clearing}
 use Rattle.theory.specs.Model.Chain.{sampling, samplingRelease, bound}
 use Rattle.sheet.specs.declared.Sheet.{Sheet}
-use Rattle.answers.specs.Answers.{Answer, given, refused, first}
-use Rattle.sheet.specs.Fields.{taskFields, entryFields, place, among}
-use Rattle.sheet.specs.Calls.{places, judgeOf}
+use Rattle.answers.specs.Answers.{Answer, given, refused}
+use Rattle.sheet.specs.Fields.{taskFields, entryFields, chainFields, among, inOrder}
+use Rattle.sheet.specs.Calls.{places, unused, judgeOf}
 use Rattle.sheet.specs.Tasks.{tasksOf}
 use Rattle.nine.specs.Outcome.{Figures, outcomeOf}
 use Rattle.nine.specs.Computed.{rowsBy, computedOf, outcome-computed}
 
--- A task (T, C, rank), and the sheet in memory with these tasks and this chain.
+-- A task (T, C, rank), and the old sheet in memory with these tasks and this chain.
 abbrev task : ℕ → ℕ → ℕ → Task
 task period budget rank = record { period = period; budget = budget; rank = rank }
 
 abbrev sheet : List Task → List ℕ → Sheet
 sheet ts chain = record {
-  tasks = places none (length ts) (λ i. getD ts i none);
-  chain = places 0 (length chain) (λ i. getD chain i 0);
+  tasks = places 16 none (length ts) (λ i. getD ts i none);
+  chains = places 8 unused 1 (λ c. record { entries = places 16 0 (length chain) (λ i. getD chain i 0); length = length chain; limit = 0 });
+  edition = 1;
   count = length ts;
-  length = length chain;
+  suite = 0;
 }
 
 -- A sheet, and what document 01 says of it.
@@ -76,5 +77,5 @@ rows-hold (r ∷ rs) e = (outcome-computed (r .on) ∙ cc, rows-hold rs cc)
 
 -- Of each of the nine sheets the definitions say what document 01 says.
 pub nine : Every (λ r. outcomeOf (r .on) ≡ r .says) nineSheets
-unfolding computedOf judgeOf first taskFields entryFields place among listOf tasksOf hyperperiod lcm gcd allJobs sum greatest maximum least clearing rowsBy sampling samplingRelease bound up
+unfolding computedOf judgeOf inOrder taskFields entryFields chainFields among listOf tasksOf hyperperiod lcm gcd allJobs sum greatest maximum least clearing rowsBy sampling samplingRelease bound up
 nine = rows-hold nineSheets refl

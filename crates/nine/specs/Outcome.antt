@@ -14,10 +14,10 @@ pub record Figures : Type 0 where
   pub release : ℕ
   pub bound : ℕ
 
--- The answer of `figures` with a table that is large enough for every sheet, and that table.
+-- The answer of `figures` for chain 1, with a table that is large enough for every sheet, and that table.
 unfoldable pub outcomeOf : Sheet → Answer Figures
 outcomeOf s =
-    after (figuresOf s mostJobs) λ x.
+    after (figuresOf s 1 mostJobs) λ x.
     given (record {
       table = rows (tasksOf s) (length (tasksOf s));
       sampling = x .sampling .ticks;

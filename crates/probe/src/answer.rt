@@ -4,7 +4,9 @@
 // A function that puts something answers the place after it.
 use super::request::past;
 use answers::Refusal;
+use sheet::Chain;
 use sheet::Sheet;
+use theory::Task;
 
 fn wide(x: u8) -> u32 {
     x as u32
@@ -51,20 +53,46 @@ pub fn put_words(out: &mut [u8], at: usize, words: &[u32]) -> usize {
     place
 }
 
-// The counts and all sixteen places of both kinds.
-pub fn put_sheet(out: &mut [u8], at: usize, s: Sheet) -> usize {
-    let mut place = put_word(&mut *out, at, wide(s.count));
-    place = put_word(&mut *out, place, wide(s.length));
+fn put_tasks(out: &mut [u8], at: usize, tasks: [Task; 16]) -> usize {
+    let mut place = at;
     let mut i = 0;
     while i < 16 {
-        let t = s.tasks[i];
+        let t = tasks[i];
         place = put_word(&mut *out, place, t.period);
         place = put_word(&mut *out, place, t.budget);
         place = put_word(&mut *out, place, wide(t.rank));
-        place = put_word(&mut *out, place, wide(s.chain[i]));
         i += 1;
     }
     place
+}
+
+fn put_chain(out: &mut [u8], at: usize, c: Chain) -> usize {
+    let first = put_word(&mut *out, at, c.limit);
+    let next = put_word(&mut *out, first, wide(c.length));
+    let entries = c.entries;
+    put_bytes(out, next, &entries)
+}
+
+fn put_chains(out: &mut [u8], at: usize, chains: [Chain; 8]) -> usize {
+    let mut place = at;
+    let mut i = 0;
+    while i < 8 {
+        let c = chains[i];
+        place = put_chain(&mut *out, place, c);
+        i += 1;
+    }
+    place
+}
+
+// Edition and both counts, and all places; of an entry only its byte.
+pub fn put_sheet(out: &mut [u8], at: usize, s: Sheet) -> usize {
+    let first = put_word(&mut *out, at, wide(s.edition));
+    let second = put_word(&mut *out, first, wide(s.count));
+    let third = put_word(&mut *out, second, wide(s.suite));
+    let tasks = s.tasks;
+    let next = put_tasks(&mut *out, third, tasks);
+    let chains = s.chains;
+    put_chains(out, next, chains)
 }
 
 fn opening(out: &mut [u8], number: u32, value: u32) -> usize {

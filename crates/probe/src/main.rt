@@ -21,6 +21,7 @@ use arith::Multiple;
 use chain::Delay;
 use chain::Figures;
 use chain::Margin;
+use chain::Suite;
 use chain::Summary;
 use chain::TaskFigures;
 use recurrence::Quick;
@@ -32,6 +33,7 @@ use request::sheet_in;
 use schedule::Responses;
 use schedule::Sizes;
 use schedule::TaskResponses;
+use sheet::Reading;
 use sheet::Sheet;
 use sheet::Written;
 
@@ -49,6 +51,13 @@ fn put_verdict(out: &mut [u8], v: Verdict) -> usize {
         Verdict::Fine => accepted(out),
         Verdict::No(r) => refused(out, r),
     }
+}
+
+fn put_reading(out: &mut [u8], r: Reading) -> usize {
+    let v = r.verdict;
+    let at = put_verdict(&mut *out, v);
+    let s = r.sheet;
+    put_sheet(out, at, s)
 }
 
 fn put_written(out: &mut [u8], w: Written) -> usize {
@@ -96,22 +105,29 @@ fn put_margin(out: &mut [u8], m: Margin) -> usize {
     }
 }
 
-fn put_summary(out: &mut [u8], summary: Summary) -> usize {
+fn put_summary(out: &mut [u8], at: usize, summary: Summary) -> usize {
     let totals = summary.totals;
-    let at = three(&mut *out, totals.hyperperiod, totals.jobs, totals.idle);
-    let sampling = summary.sampling;
     let first = put_words(
         &mut *out,
         at,
+        &[totals.hyperperiod, totals.jobs, totals.idle],
+    );
+    let sampling = summary.sampling;
+    let second = put_words(
+        &mut *out,
+        first,
         &[sampling.ticks, sampling.release, summary.sampling_bound],
     );
-    let next = put_words(&mut *out, first, &[summary.worst, summary.bound]);
-    put_signed(out, next, summary.margin)
+    let third = put_words(&mut *out, second, &[summary.worst, summary.bound]);
+    put_signed(out, third, summary.margin)
 }
 
 fn put_figures(out: &mut [u8], f: Figures) -> usize {
     match f {
-        Figures::Of(summary) => put_summary(out, summary),
+        Figures::Of(summary) => {
+            let at = accepted(&mut *out);
+            put_summary(out, at, summary)
+        }
         Figures::No(r) => refused(out, r),
     }
 }
@@ -121,6 +137,26 @@ fn put_task_figures(out: &mut [u8], t: TaskFigures) -> usize {
     let at = put_figures(&mut *out, a);
     let greatest = t.greatest;
     put_words(out, at, &greatest)
+}
+
+fn put_summaries(out: &mut [u8], at: usize, chains: [Summary; 8]) -> usize {
+    let mut place = at;
+    let mut i = 0;
+    while i < 8 {
+        let summary = chains[i];
+        place = put_summary(&mut *out, place, summary);
+        i += 1;
+    }
+    place
+}
+
+fn put_suite(out: &mut [u8], suite: Suite) -> usize {
+    let a = suite.answer;
+    let at = put_responses(&mut *out, a);
+    let greatest = suite.greatest;
+    let next = put_words(&mut *out, at, &greatest);
+    let chains = suite.chains;
+    put_summaries(out, next, chains)
 }
 
 fn put_quick(out: &mut [u8], q: Quick) -> usize {
@@ -168,11 +204,7 @@ fn of_numbers(call: u32, a: u32, b: u32, c: u32, out: &mut [u8]) -> usize {
 }
 
 fn of_reading(bytes: &[u8], out: &mut [u8]) -> usize {
-    let r = sheet::read(bytes);
-    let v = r.verdict;
-    let at = put_verdict(&mut *out, v);
-    let s = r.sheet;
-    put_sheet(out, at, s)
+    put_reading(out, sheet::read(bytes))
 }
 
 fn of_lent_bytes(lent: &mut [u8], at: u32, width: u32, value: u32, out: &mut [u8]) -> usize {
@@ -183,6 +215,7 @@ fn of_lent_bytes(lent: &mut [u8], at: u32, width: u32, value: u32, out: &mut [u8
 fn of_sheet(
     call: u32,
     number: u32,
+    chain: u8,
     s: Sheet,
     lent: &mut [u8],
     table: &mut [u32],
@@ -194,13 +227,22 @@ fn of_sheet(
         11 => put_sizes(out, schedule::sizes(s)),
         12 => put_responses(out, schedule::responses(s, table)),
         13 => put_task_responses(out, schedule::task_responses(s, table)),
-        14 => put_delay(out, chain::delay(s, number, table)),
-        15 => put_margin(out, chain::margin(s, number, table)),
-        16 => put_margin(out, chain::default_margin(s, table)),
-        17 => put_task_figures(out, chain::figures(s, table)),
-        18 => put_quick_bound(out, recurrence::bound(s)),
+        14 => put_delay(out, chain::delay(s, chain, number, table)),
+        15 => put_margin(out, chain::margin(s, chain, number, table)),
+        16 => put_margin(out, chain::default_margin(s, chain, table)),
+        17 => put_task_figures(out, chain::figures(s, chain, table)),
+        18 => put_quick_bound(out, recurrence::bound(s, chain)),
+        19 => put_suite(out, chain::suite(s, table)),
+        20 => put_reading(out, sheet::to_second(s)),
+        21 => put_reading(out, sheet::to_first(s)),
+        22 => put_verdict(out, sheet::numbered(s, chain)),
         _ => accepted(out),
     }
+}
+
+// The number of the chain, of which a request has the last eight bits.
+fn chain_named(q: Request) -> u8 {
+    (q.second % 256) as u8
 }
 
 // A sheet given as bytes is read first, and a refusal there is the answer.
@@ -211,7 +253,7 @@ fn of_bytes(q: Request, bytes: &[u8], lent: &mut [u8], table: &mut [u32], out: &
         return put_verdict(out, v);
     };
     let s = r.sheet;
-    of_sheet(q.call, q.first, s, lent, table, out)
+    of_sheet(q.call, q.first, chain_named(q), s, lent, table, out)
 }
 
 fn of_call(q: Request, sheet: &[u8], lent: &mut [u8], table: &mut [u32], out: &mut [u8]) -> usize {
@@ -226,7 +268,15 @@ fn of_call(q: Request, sheet: &[u8], lent: &mut [u8], table: &mut [u32], out: &m
             if q.form == 0 {
                 return of_bytes(q, sheet, lent, table, out);
             }
-            of_sheet(call, q.first, sheet_in(sheet), lent, table, out)
+            of_sheet(
+                call,
+                q.first,
+                chain_named(q),
+                sheet_in(sheet),
+                lent,
+                table,
+                out,
+            )
         }
     }
 }

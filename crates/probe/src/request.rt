@@ -1,9 +1,10 @@
 // A request as it comes on standard input. Every number is a word of four bytes, the most significant first.
+use sheet::Chain;
 use sheet::Sheet;
 use theory::Task;
 
-// A call by its number; the form of its sheet, 0 for bytes and any other for the fields in memory; three numbers; how many entries
-// of the table it is lent. Then come so many bytes of the sheet and so many of content: the bytes that the call is lent, or the words
+// A call by its number; the form of its sheet, 0 for bytes and any other for the fields in memory; three numbers, of which a call on a
+// sheet takes the first for a release or a limit and the second for the chain; how many entries of the table it is lent. Then come so many bytes of the sheet and so many of content: the bytes that the call is lent, or the words
 // that a lent table holds over and over.
 pub struct Request {
     pub call: u32,
@@ -65,26 +66,68 @@ fn task_in(input: &[u8], at: usize) -> Task {
     }
 }
 
-// A sheet in memory, field by field: the counts, the sixteen tasks, the sixteen chain places. Missing bytes are 0.
-pub fn sheet_in(input: &[u8]) -> Sheet {
+fn tasks_in(input: &[u8], at: usize) -> [Task; 16] {
     let none = Task {
         period: 0,
         budget: 0,
         rank: 0,
     };
-    let mut s = Sheet {
-        tasks: [none; 16],
-        chain: [0u8; 16],
-        count: byte(input, 0),
-        length: byte(input, 1),
-    };
+    let mut tasks = [none; 16];
     let mut i = 0;
     while i < 16 {
-        s.tasks[i] = task_in(input, 2 + 9 * i);
-        s.chain[i] = byte(input, 146 + i);
+        tasks[i] = task_in(input, past(at, 9 * i));
         i += 1;
     }
-    s
+    tasks
+}
+
+fn entries_in(input: &[u8], at: usize) -> [u8; 16] {
+    let mut entries = [0u8; 16];
+    let mut i = 0;
+    while i < 16 {
+        entries[i] = byte(input, past(at, i));
+        i += 1;
+    }
+    entries
+}
+
+fn chain_in(input: &[u8], at: usize) -> Chain {
+    let limit = word(input, at);
+    let length = byte(input, past(at, 4));
+    let entries = entries_in(input, past(at, 5));
+    Chain {
+        entries,
+        length,
+        limit,
+    }
+}
+
+fn chains_in(input: &[u8], at: usize) -> [Chain; 8] {
+    let unused = Chain {
+        entries: [0u8; 16],
+        length: 0,
+        limit: 0,
+    };
+    let mut chains = [unused; 8];
+    let mut i = 0;
+    while i < 8 {
+        chains[i] = chain_in(input, past(at, 21 * i));
+        i += 1;
+    }
+    chains
+}
+
+// A sheet in memory, field by field: edition and both counts, the sixteen tasks, the eight chains. Missing bytes are 0.
+pub fn sheet_in(input: &[u8]) -> Sheet {
+    let tasks = tasks_in(input, 3);
+    let chains = chains_in(input, 147);
+    Sheet {
+        tasks,
+        chains,
+        edition: byte(input, 0),
+        count: byte(input, 1),
+        suite: byte(input, 2),
+    }
 }
 
 // The first content of a lent table: the words of the content over and over, zeros if it has none.

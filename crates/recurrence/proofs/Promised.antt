@@ -4,7 +4,7 @@ use Rattle.recurrence.specs.Promises.{BoundPromise, BoundRefusalPromise}
 use Rattle.recurrence.proofs.bound.Reads as bound
 use Rattle.recurrence.proofs.bound_refusal.Reads as bound_refusal
 
-bound-promised : bound.Learnt ≡ (λ κs a r e. BoundPromise (a .0) r)
+bound-promised : bound.Learnt ≡ (λ κs a r e. BoundPromise (a .0) (a .1 .0) r)
 bound-promised = refl
 
 bound-refusal-promised : bound_refusal.Learnt ≡ (λ κs a r e. BoundRefusalPromise (a .0) r)

@@ -1,5 +1,5 @@
--- The quick bound along the chain of a sheet, pair by pair.
-use mathlib.Core.Path.{_≡_, sym, ap, ap₂, _∙_}
+-- The quick bound along a chain of a sheet's tasks, pair by pair.
+use mathlib.Core.Path.{_≡_, refl, sym, ap, ap₂, _∙_}
 use mathlib.Core.List.{List, _∷_}
 use mathlib.Core.Bool.{cond}
 use Prim.Native.Nat.{ℕ, _+_, _-_, _≤_, _<_}
@@ -7,7 +7,7 @@ use native.Mathlib.Numerals.{add-one}
 use native.Mathlib.Omega.{arith}
 use lib.Dec.{ltb}
 use lib.ListN.{length, getD, drop, length-drop, drop-of-length-le}
-use lib.Seq.{getD-take, drop-cons}
+use lib.Seq.{drop-cons}
 use Rattle.arith.specs.Whole.{gcd, up}
 use Rattle.arith.specs.WholeLaws.{up-near}
 use Rattle.theory.specs.declared.Task.{Task}
@@ -15,39 +15,44 @@ use Rattle.theory.specs.Model.Schedule.{none, period}
 use Rattle.theory.specs.Model.Chain.{outranked, bound, walkBound}
 use Rattle.theory.specs.Model.Recurrence.{quickResponse}
 use Rattle.theory.specs.Analysis.Largest.{SmallTask, common-most, along-chain, bound-most}
+use Rattle.answers.specs.Answers.{fine}
 use Rattle.sheet.specs.declared.Sheet.{Sheet}
 use Rattle.sheet.specs.Sound.{Sound}
-use Rattle.sheet.specs.Tasks.{tasksOf, chainOf, firstOf, restOf}
-use Rattle.sheet.specs.TaskLaws.{tasks-length, task-at, period-at, place-allowed, task-allowed, chain-length, chain-most, chain-known}
+use Rattle.sheet.specs.Tasks.{tasksOf, lacks, chainAt, chainOf, firstOf, restOf}
+use Rattle.sheet.specs.TaskLaws.{tasks-length, task-at, period-at, place-allowed, task-allowed, chain-place, chain-most, entry-listed, chain-known}
 use Rattle.recurrence.specs.Calls.{boundBy}
-use Rattle.recurrence.specs.Conditions.{mostPeriod, mostBound, Responding, pairOf}
+use Rattle.recurrence.specs.Conditions.{mostPeriod, mostBound, Responding, ChainOn, pairOf}
 
 -- What is left of the bound at entry j of the chain.
-unfoldable pub boundFrom : Sheet → ℕ → ℕ
-boundFrom s j = bound (tasksOf s) (quickResponse (tasksOf s)) (getD (s .chain) j 0) (drop (j + 1) (chainOf s))
+unfoldable pub boundFrom : Sheet → List ℕ → ℕ → ℕ
+boundFrom s chain j = bound (tasksOf s) (quickResponse (tasksOf s)) (getD chain j 0) (drop (j + 1) chain)
 
-module _ {s : Sheet} (ok : Sound s) (whole : length (s .chain) ≡ 16) where
-  entry-at : (j : ℕ) → j < s .length → getD (chainOf s) j 0 ≡ getD (s .chain) j 0
-  entry-at j l = getD-take (s .length) (s .chain) j 0 l
-
-  pub bound-start : boundFrom s 0 ≡ boundBy (tasksOf s) (chainOf s)
+module _ (s : Sheet) (chain : List ℕ) where
+  pub bound-start : boundFrom s chain 0 ≡ boundBy (tasksOf s) chain
   unfolding boundFrom
-  bound-start = ap (λ p. bound (tasksOf s) (quickResponse (tasksOf s)) p (drop 1 (chainOf s))) (sym (entry-at 0 (ok .length-least)))
+  bound-start = refl
 
   -- A pair, and what is left after it,
-  pub bound-turn : (j : ℕ) → j + 1 < s .length → boundFrom s j ≡ pairOf s (getD (s .chain) j 0) (getD (s .chain) (j + 1) 0) + boundFrom s (j + 1)
+  pub bound-turn : (j : ℕ) → j + 1 < length chain → boundFrom s chain j ≡ pairOf s (getD chain j 0) (getD chain (j + 1) 0) + boundFrom s chain (j + 1)
   unfolding boundFrom bound walkBound
-  bound-turn j l = ap (bound (tasksOf s) (quickResponse (tasksOf s)) (getD (s .chain) j 0)) rest
-    where
-      rest : drop (j + 1) (chainOf s) ≡ getD (s .chain) (j + 1) 0 ∷ drop (j + 1 + 1) (chainOf s)
-      rest = drop-cons (chainOf s) (j + 1) 0 (omega (arith, chain-length ok whole))
-          ∙ ap₂ (λ x n. x ∷ drop n (chainOf s)) (entry-at (j + 1) l) (sym (add-one (j + 1)))
+  bound-turn j l =
+      ap (bound (tasksOf s) (quickResponse (tasksOf s)) (getD chain j 0))
+      (drop-cons chain (j + 1) 0 l ∙ ap (λ n. getD chain (j + 1) 0 ∷ drop n chain) (sym (add-one (j + 1))))
 
   -- or the last task.
-  pub bound-last : (j : ℕ) → j + 1 ≡ s .length → boundFrom s j ≡ quickResponse (tasksOf s) (getD (s .chain) j 0)
+  pub bound-last : (j : ℕ) → j + 1 ≡ length chain → boundFrom s chain j ≡ quickResponse (tasksOf s) (getD chain j 0)
   unfolding boundFrom bound walkBound
   bound-last j e =
-      ap (bound (tasksOf s) (quickResponse (tasksOf s)) (getD (s .chain) j 0)) (drop-of-length-le (chainOf s) {i = j + 1} (omega (arith, chain-length ok whole)))
+      ap (bound (tasksOf s) (quickResponse (tasksOf s)) (getD chain j 0)) (drop-of-length-le chain {i = j + 1} (omega arith))
+
+-- The chain of a number.
+pub chain-on : {s : Sheet} → Sound s → (number : ℕ) → lacks s number ≡ fine → length (chainOf s number) ≡ chainAt s number .length → ChainOn s (chainOf s number)
+chain-on ok number known whole = record {
+  is-chain = chain-known ok number known;
+  entry-below = λ j l. omega (arith, entry-listed ok number known j l, tasks-length ok);
+  some = omega (arith, ok .length-least (number - 1) (chain-place ok number known));
+  few = chain-most ok number known;
+}
 
 module _ {s : Sheet} (ok : Sound s) {responses : List ℕ} (responding : Responding s responses) where
   pub small : (i : ℕ) → i < s .count → SmallTask mostPeriod (period (tasksOf s)) (quickResponse (tasksOf s)) i
@@ -60,15 +65,15 @@ module _ {s : Sheet} (ok : Sound s) {responses : List ℕ} (responding : Respond
       }
 
   -- Sixteen tasks: fifteen pairs and the last response.
-  pub bound-small : boundBy (tasksOf s) (chainOf s) ≤ mostBound
+  pub bound-small : {chain : List ℕ} → ChainOn s chain → boundBy (tasksOf s) chain ≤ mostBound
   unfolding bound
-  bound-small = omega (
+  bound-small {chain} on = omega (
     arith,
-    bound-most mostPeriod (period (tasksOf s)) (outranked (tasksOf s)) (quickResponse (tasksOf s)) (firstOf (chainOf s)) (restOf (chainOf s))
+    bound-most mostPeriod (period (tasksOf s)) (outranked (tasksOf s)) (quickResponse (tasksOf s)) (firstOf chain) (restOf chain)
         (along-chain (SmallTask mostPeriod (period (tasksOf s)) (quickResponse (tasksOf s))) (length (tasksOf s))
-        (λ i l. small i (omega (arith, tasks-length ok))) (firstOf (chainOf s)) (restOf (chainOf s)) (chain-known ok)),
-    length-drop 1 (chainOf s),
-    chain-most ok,
+        (λ i l. small i (omega (arith, tasks-length ok))) (firstOf chain) (restOf chain) (on .is-chain)),
+    length-drop 1 chain,
+    on .few,
   )
 
   -- A pair, by the numbers in its places, and how large these are.

@@ -5,9 +5,8 @@ use mathlib.Core.Bool.{Bool, true, false, cond}
 use Prim.Native.Nat.{ℕ, zero, suc, _+_, _≤_, _<_}
 use native.Mathlib.Numerals.{add-one}
 use native.Mathlib.Omega.{arith}
-use lib.ListN.{length, getD, replicate}
+use lib.ListN.{length, getD}
 use borrow.Author.Tests.{lt-ltb, le-ltb, ltb-false}
-use Rattle.bits.specs.Bits.{listOf}
 use Rattle.theory.specs.declared.Task.{Task}
 use Rattle.theory.specs.Model.Schedule.{none, period, rank, Slot, idle, busy}
 use Rattle.theory.specs.Model.Greatest.{outranking, greatest}
@@ -19,36 +18,44 @@ use Rattle.sheet.specs.declared.Sheet.{Sheet}
 use Rattle.sheet.specs.Calls.{judgeOf}
 use Rattle.sheet.specs.PlaceLaws.{places-taken}
 use Rattle.sheet.specs.Sound.{Sound}
-use Rattle.sheet.specs.Tasks.{tasksOf, chainOf, lateness}
+use Rattle.sheet.specs.Tasks.{tasksOf, lacks, chainOf}
+use Rattle.sheet.specs.Lateness.{lateness}
 use Rattle.sheet.specs.TaskLaws.{tasks-length, rank-at, period-at}
-use Rattle.recurrence.specs.Calls.{passes, passingGreatest, boundsOf, quickOf, responsesIn, responsesAfter}
+use Rattle.recurrence.specs.Calls.{passes, passingGreatest, boundsOf, quickOf, responsesIn, noResponses, responsesAfter}
 use Rattle.recurrence.specs.Conditions.{Responding}
 
 -- ---- the answer
 
-module _ (s : Sheet) where
+module _ (s : Sheet) (number : ℕ) where
   abbrev passing : Judgement
   passing = lateness (passingGreatest (tasksOf s) (length (tasksOf s)))
 
-  pub quick-refused : (r : Refusal) → judgeOf s ≡ refusal r → quickOf s ≡ refusal r
+  -- The judgements in their order.
+  quick-by : {j k l : Judgement} → judgeOf s ≡ j → lacks s number ≡ k → passing ≡ l
+      → quickOf s number ≡ also j (also k (also l (given (boundsOf (tasksOf s) (chainOf s number)))))
   unfolding quickOf
-  quick-refused r e = rw e
+  quick-by {j} {k} e n q =
+      ap₂ (λ j k. also j (also k (also passing (given (boundsOf (tasksOf s) (chainOf s number)))))) e n
+      ∙ ap (λ l. also j (also k (also l (given (boundsOf (tasksOf s) (chainOf s number)))))) q
 
-  pub quick-passing : (r : Refusal) → judgeOf s ≡ fine → passing ≡ refusal r → quickOf s ≡ refusal r
-  unfolding quickOf
-  quick-passing r e q = ap₂ (λ j k. also j (also k (given (boundsOf (tasksOf s) (chainOf s))))) e q
+  pub quick-refused : (r : Refusal) → judgeOf s ≡ refusal r → quickOf s number ≡ refusal r
+  quick-refused r e = quick-by e refl refl
 
-  pub quick-passing-task : {i : ℕ} → judgeOf s ≡ fine → passingGreatest (tasksOf s) (length (tasksOf s)) ≡ busy i → quickOf s ≡ refused 15 (i ∷ [])
-  unfolding quickOf
-  quick-passing-task e q = ap₂ (λ j x. also j (also (lateness x) (given (boundsOf (tasksOf s) (chainOf s))))) e q
+  pub quick-lacking : (r : Refusal) → judgeOf s ≡ fine → lacks s number ≡ refusal r → quickOf s number ≡ refusal r
+  quick-lacking r e n = quick-by e n refl
 
-  pub quick-fits : judgeOf s ≡ fine → passing ≡ fine → quickOf s ≡ given (boundsOf (tasksOf s) (chainOf s))
-  unfolding quickOf
-  quick-fits e q = ap₂ (λ j k. also j (also k (given (boundsOf (tasksOf s) (chainOf s))))) e q
+  pub quick-passing : (r : Refusal) → judgeOf s ≡ fine → lacks s number ≡ fine → passing ≡ refusal r → quickOf s number ≡ refusal r
+  quick-passing r e n q = quick-by e n q
+
+  pub quick-passing-task : {i : ℕ} → judgeOf s ≡ fine → lacks s number ≡ fine → passingGreatest (tasksOf s) (length (tasksOf s)) ≡ busy i
+      → quickOf s number ≡ refused 15 (i ∷ [])
+  quick-passing-task e n q = quick-by e n (ap lateness q)
+
+  pub quick-fits : judgeOf s ≡ fine → lacks s number ≡ fine → passing ≡ fine → quickOf s number ≡ given (boundsOf (tasksOf s) (chainOf s number))
+  quick-fits e n q = quick-by e n q
 
   -- A refusal leaves zeros.
-  pub responses-none : (r : Refusal) → quickOf s ≡ refusal r → replicate 16 0 ≡ responsesAfter (quickOf s) s
-  unfolding listOf
+  pub responses-none : (r : Refusal) → quickOf s number ≡ refusal r → noResponses ≡ responsesAfter (quickOf s number) s
   responses-none r e = ap (λ a. responsesAfter a s) (sym e)
 
 -- ---- the greatest-ranked task that passes its period
@@ -77,7 +84,7 @@ found-start s = record { is-greatest = refl; has-rank = λ l. absurd (omega arit
 module _ {s : Sheet} (ok : Sound s) {values : List ℕ} (are : values ≡ responsesIn s) where
   pub response-at : (i : ℕ) → i < s .count → getD values i 0 ≡ quickResponse (tasksOf s) i
   response-at i l =
-      ap (λ xs. getD xs i 0) are ∙ places-taken 0 (quickResponse (tasksOf s)) (s .count) i l (omega (arith, ok .count-most))
+      ap (λ xs. getD xs i 0) are ∙ places-taken 16 0 (quickResponse (tasksOf s)) (s .count) 0 i l (omega (arith, ok .count-most))
 
   module _ {i above found : ℕ} (l : i < s .count) (f : FoundTo s i above found) where
     abbrev ts : List Task

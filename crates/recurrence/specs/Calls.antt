@@ -3,7 +3,7 @@ use mathlib.Core.Bool.{Bool}
 use mathlib.Core.List.{List}
 use Prim.Native.Nat.{ℕ}
 use lib.Dec.{ltb}
-use lib.ListN.{length}
+use lib.ListN.{length, replicate}
 use Rattle.theory.specs.declared.Task.{Task}
 use Rattle.theory.specs.Model.Schedule.{period, rank, Slot}
 use Rattle.theory.specs.Model.Greatest.{greatest}
@@ -15,7 +15,8 @@ use Rattle.answers.specs.declared.Refusal.the-variants.{Number}
 use Rattle.answers.specs.Answers.{Answer, given, refused, also, refusal}
 use Rattle.sheet.specs.declared.Sheet.{Sheet}
 use Rattle.sheet.specs.Calls.{places, judgeOf}
-use Rattle.sheet.specs.Tasks.{tasksOf, chainOf, firstOf, restOf, lateness}
+use Rattle.sheet.specs.Tasks.{tasksOf, lacks, chainOf, firstOf, restOf}
+use Rattle.sheet.specs.Lateness.{lateness}
 use Rattle.recurrence.specs.declared.answer.Bounds.{Bounds}
 use Rattle.recurrence.specs.declared.answer.Quick.{Quick}
 use Rattle.recurrence.specs.declared.answer.Quick.the-variants.{Of, No}
@@ -39,20 +40,24 @@ boundsOf ts chain = record {
   bound = fromFlag ts (firstOf chain) (boundBy ts chain);
 }
 
--- "2 to 8"; then 15. "10, 11 and 14 do not occur in this call."
-unfoldable pub quickOf : Sheet → Answer Bounds
-quickOf s =
+-- The fields, "then 17 for a chain number the sheet lacks"; then 15. "10, 11 and 14 do not occur in this call."
+unfoldable pub quickOf : Sheet → ℕ → Answer Bounds
+quickOf s number =
     also (judgeOf s)
+    (also (lacks s number)
     (also (lateness (passingGreatest (tasksOf s) (length (tasksOf s))))
-    (given (boundsOf (tasksOf s) (chainOf s))))
+    (given (boundsOf (tasksOf s) (chainOf s number)))))
 
 -- The response of each task of the sheet, in its place; zeros with a refusal.
 abbrev pub responsesIn : Sheet → List ℕ
-responsesIn s = places 0 (s .count) (quickResponse (tasksOf s))
+responsesIn s = places 16 0 (s .count) (quickResponse (tasksOf s))
+
+abbrev pub noResponses : List ℕ
+noResponses = replicate 16 0
 
 abbrev pub responsesAfter : Answer Bounds → Sheet → List ℕ
 responsesAfter (given bounds) s = responsesIn s
-responsesAfter (refused number values) s = places 0 0 (quickResponse (tasksOf s))
+responsesAfter (refused number values) s = noResponses
 
 -- The answer for each case of the code's enum,
 abbrev pub toldQuick : Quick → Answer Bounds

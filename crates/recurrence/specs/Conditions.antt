@@ -3,15 +3,15 @@ use mathlib.Core.Path.{_≡_}
 use mathlib.Core.List.{List}
 use mathlib.Core.Bool.{cond}
 use Prim.Native.Nat.{ℕ, _+_, _*_, _≤_, _<_}
-use lib.ListN.{getD}
+use lib.ListN.{length, getD}
 use Rattle.arith.specs.Ranges.{sum}
 use Rattle.theory.specs.declared.Task.{Task}
 use Rattle.theory.specs.Model.Schedule.{period, budget}
-use Rattle.theory.specs.Model.Chain.{outranks, outranked}
+use Rattle.theory.specs.Model.Chain.{Chain, outranks, outranked}
 use Rattle.theory.specs.Model.Recurrence.{quotient, quickResponse}
 use Rattle.theory.specs.Analysis.Largest.{pairBound}
 use Rattle.sheet.specs.declared.Sheet.{Sheet}
-use Rattle.sheet.specs.Tasks.{tasksOf}
+use Rattle.sheet.specs.Tasks.{tasksOf, firstOf, restOf}
 
 -- A period is at most 100,000; then a task claims at most 200,000 of so many ticks, a pair adds at most that to a bound, and a chain of
 -- sixteen tasks has one of at most 3,100,000.
@@ -46,6 +46,13 @@ claimIn periods budgets size own x = own + sum size (λ p. getD budgets p 0 * qu
 pub record Responding (s : Sheet) (responses : List ℕ) : Type 0 where
   pub response-is : (i : ℕ) → i < s .count → getD responses i 0 ≡ quickResponse (tasksOf s) i
   pub response-most : (i : ℕ) → i < s .count → quickResponse (tasksOf s) i ≤ period (tasksOf s) i
+
+-- A chain of the sheet's tasks.
+pub record ChainOn (s : Sheet) (chain : List ℕ) : Type 0 where
+  pub is-chain : Chain (tasksOf s) (firstOf chain) (restOf chain)
+  pub entry-below : (j : ℕ) → j < length chain → getD chain j 0 < s .count
+  pub some : 1 ≤ length chain
+  pub few : length chain ≤ 16
 
 -- What a pair of neighbours adds to the quick bound.
 abbrev pub pairOf : Sheet → ℕ → ℕ → ℕ

@@ -1,13 +1,14 @@
 -- What each call promises of its inputs and its answer.
 use mathlib.Core.Path.{_≡_}
+use Prim.Native.Nat.{ℕ}
 use Rattle.answers.specs.declared.Refusal.{Refusal}
 use Rattle.sheet.specs.declared.Sheet.{Sheet}
 use Rattle.recurrence.specs.declared.answer.Quick.{Quick}
 use Rattle.recurrence.specs.declared.answer.QuickBound.{QuickBound}
 use Rattle.recurrence.specs.Calls.{quickOf, responsesAfter, toldQuick, quickRefusal}
 
-abbrev pub BoundPromise : Sheet → QuickBound → Type 0
-BoundPromise s r = (toldQuick (r .answer) ≡ quickOf s) × (r .responses ≡ responsesAfter (quickOf s) s)
+abbrev pub BoundPromise : Sheet → ℕ → QuickBound → Type 0
+BoundPromise s number r = (toldQuick (r .answer) ≡ quickOf s number) × (r .responses ≡ responsesAfter (quickOf s number) s)
 
 abbrev pub BoundRefusalPromise : Quick → Refusal → Type 0
 BoundRefusalPromise q r = r ≡ quickRefusal q

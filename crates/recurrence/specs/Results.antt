@@ -1,5 +1,6 @@
 -- When each answer is given, and what an answer says of every schedule of the sheet's tasks, whatever their hyperperiod.
 use mathlib.Core.Path.{_≡_, refl, sym, ap, _∙_, subst}
+use mathlib.Core.Logic.{_≢_}
 use mathlib.Core.List.{List, [], _∷_}
 use mathlib.Core.Bool.{true, false, false≢true}
 use Prim.Native.Nat.{ℕ, _+_, _≤_, _<_}
@@ -16,12 +17,16 @@ use Rattle.theory.specs.Analysis.QuickLaws.{within-accepted}
 use Rattle.theory.specs.Results.QuickBound as theory
 use Rattle.answers.specs.Answers.{Answer, given, refused, Judgement, fine, also}
 use Rattle.answers.specs.AnswerLaws.{refused-given, also-given}
+use Rattle.answers.specs.NumberLaws.{when-never}
 use Rattle.sheet.specs.declared.Sheet.{Sheet}
 use Rattle.sheet.specs.Calls.{judgeOf}
-use Rattle.sheet.specs.NumberLaws.{judge-numbered}
+use Rattle.sheet.specs.Fields.{outside}
+use Rattle.sheet.specs.NeverLaws.{judge-never}
 use Rattle.sheet.specs.SoundLaws.{judged-sound}
-use Rattle.sheet.specs.Tasks.{tasksOf, chainOf, firstOf, restOf, lateness}
-use Rattle.sheet.specs.TaskLaws.{tasks-length, sound-proper, chain-known, lateness-fine}
+use Rattle.sheet.specs.Tasks.{tasksOf, chainCount, lacks, chainOf, firstOf, restOf}
+use Rattle.sheet.specs.Lateness.{lateness}
+use Rattle.sheet.specs.TaskLaws.{tasks-length, sound-proper, chain-known}
+use Rattle.sheet.specs.LatenessLaws.{lateness-fine}
 use Rattle.recurrence.specs.declared.answer.Bounds.{Bounds}
 use Rattle.recurrence.specs.declared.answer.QuickBound.{QuickBound}
 use Rattle.recurrence.specs.Calls.{passingGreatest, boundsOf, quickOf, responsesAfter}
@@ -30,15 +35,17 @@ use Rattle.recurrence.specs.Promises.{BoundPromise}
 
 -- ---- when each answer is given
 
--- The bounds: the sheet is judged fine, and no value passes its period.
-pub record GivenWhen (s : Sheet) (b : Bounds) : Type 0 where
+-- The bounds: the sheet is judged fine and has the chain, and no value passes its period.
+pub record GivenWhen (s : Sheet) (number : ℕ) (b : Bounds) : Type 0 where
   pub judged-fine : judgeOf s ≡ fine
+  pub numbered-fine : lacks s number ≡ fine
   pub none-passing : (i : ℕ) → i < length (tasksOf s) → quickResponse (tasksOf s) i ≤ period (tasksOf s) i
-  pub bounds-are : boundsOf (tasksOf s) (chainOf s) ≡ b
+  pub bounds-are : boundsOf (tasksOf s) (chainOf s number) ≡ b
 
 -- 15: i is "the greatest-ranked task whose value passes its period".
-pub record LateWhen (s : Sheet) (i : ℕ) : Type 0 where
+pub record LateWhen (s : Sheet) (number i : ℕ) : Type 0 where
   pub judged-fine : judgeOf s ≡ fine
+  pub numbered-fine : lacks s number ≡ fine
   pub known : i < length (tasksOf s)
   pub passing : Passing (tasksOf s) i
   pub greatest-rank : (j : ℕ) → j < length (tasksOf s) → Passing (tasksOf s) j → rank (tasksOf s) j ≤ rank (tasksOf s) i
@@ -66,42 +73,51 @@ module _ (ts : List Task) where
             most j (x .0) (ltb-true (period ts j) (quickResponse ts j) (x .1)),
           )))
 
-module _ (s : Sheet) where
+module _ (s : Sheet) (number : ℕ) where
   abbrev ts : List Task
   ts = tasksOf s
 
-  pub quick-given : {b : Bounds} → quickOf s ≡ given b → GivenWhen s b
+  pub quick-given : {b : Bounds} → quickOf s number ≡ given b → GivenWhen s number b
   unfolding quickOf
   quick-given e =
       let x = also-given (judgeOf s) _ e in
-      let y = also-given (lateness (passingGreatest ts (length ts))) _ (x .1) in
+      let n = also-given (lacks s number) _ (x .1) in
+      let y = also-given (lateness (passingGreatest ts (length ts))) _ (n .1) in
       record {
         judged-fine = x .0;
+        numbered-fine = n .0;
         none-passing = λ i l. ltb-false _ _ (found ts (lateness-fine _ (y .0)) i l);
         bounds-are = cc (y .1);
       }
 
-  pub given-quick : {b : Bounds} → GivenWhen s b → quickOf s ≡ given b
-  given-quick g = quick-fits s (g .judged-fine) (ap lateness (none-found ts (g .none-passing))) ∙ ap given (g .bounds-are)
+  pub given-quick : {b : Bounds} → GivenWhen s number b → quickOf s number ≡ given b
+  given-quick g =
+      quick-fits s number (g .judged-fine) (g .numbered-fine) (ap lateness (none-found ts (g .none-passing))) ∙ ap given (g .bounds-are)
 
-  pub quick-15 : {i : ℕ} → quickOf s ≡ refused 15 (i ∷ []) → LateWhen s i
+  pub quick-15 : {i : ℕ} → quickOf s number ≡ refused 15 (i ∷ []) → LateWhen s number i
   unfolding quickOf
-  quick-15 {i} = go (judgeOf s) refl
+  quick-15 {i} = go (judgeOf s) refl (lacks s number) refl
     where
       rest : Slot → Answer Bounds
-      rest x = also (lateness x) (given (boundsOf ts (chainOf s)))
+      rest x = also (lateness x) (given (boundsOf ts (chainOf s number)))
 
-      go : (j : Judgement) → judgeOf s ≡ j → also j (rest (passingGreatest ts (length ts))) ≡ refused 15 (i ∷ []) → LateWhen s i
-      go (refused n vs) q e = absurd (omega (arith, judge-numbered s .most q, same))
+      early : {n : ℕ} {vs : List ℕ} → n ≢ 15 → _≡_ {A = Answer Bounds} (refused n vs) (refused 15 (i ∷ [])) → LateWhen s number i
+      early {n} d e = absurd (d same)
         where
           same : n ≡ 15
           same = cc
-      go (given u) q e = pick (passingGreatest ts (length ts)) refl e
+
+      go : (j : Judgement) → judgeOf s ≡ j → (k : Judgement) → lacks s number ≡ k
+          → also j (also k (rest (passingGreatest ts (length ts)))) ≡ refused 15 (i ∷ []) → LateWhen s number i
+      go (refused n vs) q k p e = early (judge-never 15 (omega arith) (omega arith) (λ z. omega arith) s .differs q) e
+      go (given u) q (refused n vs) p e = early (when-never (outside 1 (chainCount s) number) 17 (λ z. omega arith) .differs p) e
+      go (given u) q (given v) k e = pick (passingGreatest ts (length ts)) refl e
         where
-          pick : (x : Slot) → passingGreatest ts (length ts) ≡ x → rest x ≡ refused 15 (i ∷ []) → LateWhen s i
+          pick : (x : Slot) → passingGreatest ts (length ts) ≡ x → rest x ≡ refused 15 (i ∷ []) → LateWhen s number i
           pick idle p h = refused-given (sym h)
-          pick (busy j) p h = subst (LateWhen s) same (record {
+          pick (busy j) p h = subst (LateWhen s number) same (record {
             judged-fine = q;
+            numbered-fine = k;
             known = found ts p .0;
             passing = ltb-true _ _ (found ts p .1);
             greatest-rank = λ k l r. found ts p .2 k l (lt-ltb (period ts k) (quickResponse ts k) r);
@@ -110,9 +126,10 @@ module _ (s : Sheet) where
               same : j ≡ i
               same = cc
 
-  pub late-quick : {i : ℕ} → LateWhen s i → quickOf s ≡ refused 15 (i ∷ [])
+  pub late-quick : {i : ℕ} → LateWhen s number i → quickOf s number ≡ refused 15 (i ∷ [])
   late-quick w =
-      quick-passing-task s (w .judged-fine) (task-found ts (sound-proper (judged-sound s (w .judged-fine))) (w .known) (w .passing) (w .greatest-rank))
+      quick-passing-task s number (w .judged-fine) (w .numbered-fine)
+      (task-found ts (sound-proper (judged-sound s (w .judged-fine))) (w .known) (w .passing) (w .greatest-rank))
 
 -- ---- the schedules
 
@@ -122,14 +139,14 @@ pub passing-is-late : (s : Sheet) → judgeOf s ≡ fine → (i : ℕ) → i < l
 passing-is-late s e i l = theory.passing-is-late (sound-proper (judged-sound s e)) i l
 
 -- So where the bounds are given no task is late,
-pub given-accepted : (s : Sheet) {b : Bounds} → quickOf s ≡ given b → Accepted (tasksOf s)
-given-accepted s e = let g = quick-given s e in within-accepted (sound-proper (judged-sound s (g .judged-fine))) (g .none-passing)
+pub given-accepted : (s : Sheet) (number : ℕ) {b : Bounds} → quickOf s number ≡ given b → Accepted (tasksOf s)
+given-accepted s number e = let g = quick-given s number e in within-accepted (sound-proper (judged-sound s (g .judged-fine))) (g .none-passing)
 
 -- and what is answered for a task is the greatest response of all its jobs; the first has it.
-pub responses-greatest : (s : Sheet) (r : QuickBound) (promise : BoundPromise s r) {b : Bounds} (answer : quickOf s ≡ given b) (i : ℕ) (known : i < s .count)
+pub responses-greatest : (s : Sheet) (number : ℕ) (r : QuickBound) (promise : BoundPromise s number r) {b : Bounds} (answer : quickOf s number ≡ given b) (i : ℕ) (known : i < s .count)
     → ((k : ℕ) → response (tasksOf s) i k ≤ getD (r .responses) i 0) × (response (tasksOf s) i 0 ≡ getD (r .responses) i 0)
-responses-greatest s r promise answer i known =
-    let sound = judged-sound s (quick-given s answer .judged-fine) in
+responses-greatest s number r promise answer i known =
+    let sound = judged-sound s (quick-given s number answer .judged-fine) in
     let x = theory.quick-response-of-all (sound-proper sound) i (omega (arith, tasks-length sound)) in
     let is = response-at sound (promise .1 ∙ ap (λ a. responsesAfter a s) answer) i known in
     ((λ k. omega (arith, is, x .0 k)), omega (arith, is, x .1))
@@ -137,23 +154,23 @@ responses-greatest s r promise answer i known =
 -- No schedule exceeds the bound. If it is answered, then for all demands of 1 to C, every run that is a schedule for them and every job of the
 -- chain's first task the path from it exists, and ends no later than the sampling bound after the job's release;
 pub no-schedule-exceeds-quick-bound :
-    (s : Sheet) (b : Bounds) (answer : quickOf s ≡ given b)
+    (s : Sheet) (number : ℕ) (b : Bounds) (answer : quickOf s number ≡ given b)
     (d : Demands) (within : Within (tasksOf s) d) (run : Run) (schedule : Schedule (tasksOf s) d run) (k : ℕ)
-    → ((f : ℕ) × PathEnds d run (firstOf (chainOf s)) (restOf (chainOf s)) k f)
-    × ((f : ℕ) → PathEnds d run (firstOf (chainOf s)) (restOf (chainOf s)) k f → f ≤ release (tasksOf s) (firstOf (chainOf s)) k + b .«sampling_bound»)
-no-schedule-exceeds-quick-bound s b answer d within run schedule k =
-    let g = quick-given s answer in
-    let x = theory.no-schedule-exceeds-quick-bound (tasksOf s) (given-accepted s answer) (firstOf (chainOf s)) (restOf (chainOf s))
-    (chain-known (judged-sound s (g .judged-fine))) d within run schedule k in
+    → ((f : ℕ) × PathEnds d run (firstOf (chainOf s number)) (restOf (chainOf s number)) k f)
+    × ((f : ℕ) → PathEnds d run (firstOf (chainOf s number)) (restOf (chainOf s number)) k f → f ≤ release (tasksOf s) (firstOf (chainOf s number)) k + b .«sampling_bound»)
+no-schedule-exceeds-quick-bound s number b answer d within run schedule k =
+    let g = quick-given s number answer in
+    let x = theory.no-schedule-exceeds-quick-bound (tasksOf s) (given-accepted s number answer) (firstOf (chainOf s number)) (restOf (chainOf s number))
+    (chain-known (judged-sound s (g .judged-fine)) number (g .numbered-fine)) d within run schedule k in
     (x .0, λ f path. omega (arith, x .1 f path, ap (λ b. b .«sampling_bound») (g .bounds-are)))
 
 -- and a flag raised at any tick is stamped no later than the bound after it.
 pub no-flag-exceeds-quick-bound :
-    (s : Sheet) (b : Bounds) (answer : quickOf s ≡ given b)
+    (s : Sheet) (number : ℕ) (b : Bounds) (answer : quickOf s number ≡ given b)
     (d : Demands) (within : Within (tasksOf s) d) (run : Run) (schedule : Schedule (tasksOf s) d run) (e : ℕ)
-    → FlagWithin d run (firstOf (chainOf s)) (restOf (chainOf s)) e (b .bound)
-no-flag-exceeds-quick-bound s b answer d within run schedule e =
-    let g = quick-given s answer in
-    subst (λ b. FlagWithin d run (firstOf (chainOf s)) (restOf (chainOf s)) e (b .bound)) (g .bounds-are)
-    (theory.no-flag-exceeds-quick-bound (tasksOf s) (given-accepted s answer) (firstOf (chainOf s)) (restOf (chainOf s))
-    (chain-known (judged-sound s (g .judged-fine))) d within run schedule e)
+    → FlagWithin d run (firstOf (chainOf s number)) (restOf (chainOf s number)) e (b .bound)
+no-flag-exceeds-quick-bound s number b answer d within run schedule e =
+    let g = quick-given s number answer in
+    subst (λ b. FlagWithin d run (firstOf (chainOf s number)) (restOf (chainOf s number)) e (b .bound)) (g .bounds-are)
+    (theory.no-flag-exceeds-quick-bound (tasksOf s) (given-accepted s number answer) (firstOf (chainOf s number)) (restOf (chainOf s number))
+    (chain-known (judged-sound s (g .judged-fine)) number (g .numbered-fine)) d within run schedule e)

@@ -1,5 +1,6 @@
 -- One input, one answer: two answers that meet a call's promise are equal.
 use mathlib.Core.Path.{_≡_, sym, ap, ap₂, _∙_}
+use Prim.Native.Nat.{ℕ}
 use Rattle.answers.specs.declared.Refusal.{Refusal}
 use Rattle.answers.specs.AnswerLaws.{refused-given, refusal-unique}
 use Rattle.sheet.specs.declared.Sheet.{Sheet}
@@ -16,8 +17,8 @@ quick-told (Of b) (No q) e = refused-given (sym e)
 quick-told (No r) (Of c) e = refused-given e
 quick-told (No r) (No q) e = ap No (refusal-unique r q e)
 
-pub bound-unique : (s : Sheet) (x y : QuickBound) → BoundPromise s x → BoundPromise s y → x ≡ y
-bound-unique s x y p q =
+pub bound-unique : (s : Sheet) (number : ℕ) (x y : QuickBound) → BoundPromise s number x → BoundPromise s number y → x ≡ y
+bound-unique s number x y p q =
     ap₂ (λ a m. record { answer = a; responses = m }) (quick-told (x .answer) (y .answer) (p .0 ∙ sym (q .0))) (p .1 ∙ sym (q .1))
 
 pub bound-refusal-unique : (q : Quick) (x y : Refusal) → BoundRefusalPromise q x → BoundRefusalPromise q y → x ≡ y

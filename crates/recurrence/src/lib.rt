@@ -8,16 +8,19 @@ pub use answer::Quick;
 pub use answer::QuickBound;
 use answers::Refusal;
 use answers::Verdict;
+use sheet::Chain;
 use sheet::Sheet;
 ghost use mathlib.Core.Path.{_≡_};
 ghost use Prim.Native.Nat.{_≤_, _<_};
 ghost use lib.ListN.{length};
 ghost use Rattle.theory.specs.Model.Recurrence.{quickResponse};
-ghost use Rattle.answers.specs.Answers.{told};
+ghost use Rattle.answers.specs.Answers.{fine, told, refusalIn};
 ghost use Rattle.sheet.specs.Sound.{Sound};
-ghost use Rattle.sheet.specs.Tasks.{tasksOf, chainOf, lateness};
-ghost use Rattle.recurrence.specs.Calls.{passingGreatest, boundBy, boundsOf, responsesIn};
-ghost use Rattle.recurrence.specs.Conditions.{mostPeriod, Places, Outranking, claimIn, pairOf, Responding};
+ghost use Rattle.sheet.specs.Tasks.{tasksOf, lacks, chainAt, chainOf};
+ghost use Rattle.sheet.specs.Lateness.{lateness};
+ghost use Rattle.recurrence.specs.declared.answer.Quick.the-variants.{No};
+ghost use Rattle.recurrence.specs.Calls.{passingGreatest, boundBy, boundsOf, responsesIn, noResponses};
+ghost use Rattle.recurrence.specs.Conditions.{mostPeriod, Places, Outranking, claimIn, pairOf, Responding, ChainOn};
 ghost use Rattle.recurrence.specs.Promises.{BoundPromise, BoundRefusalPromise};
 
 // The periods and budgets of the tasks that outrank task i, and how many they are.
@@ -152,14 +155,14 @@ fn pair_bound(s: Sheet, p: usize, c: usize, responses: &[u32; 16]) -> u32
     ticks
 }
 
-// The quick bound of the sheet's chain: what each pair adds, and the last task's response.
-fn bound_in(s: Sheet, responses: &[u32; 16]) -> u32
+// The quick bound of a chain: what each pair adds, and the last task's response.
+fn bound_along(s: Sheet, chain: &[u8], responses: &[u32; 16]) -> u32
     requires { ⌜ Sound s ⌝ }
     requires { ⌜ Responding s (now responses) ⌝ }
-    ensures { λ r. ⌜ r ≡ boundBy (tasksOf s) (chainOf s) ⌝ }
+    requires { ⌜ ChainOn s (now chain) ⌝ }
+    ensures { λ r. ⌜ r ≡ boundBy (tasksOf s) (now (chain .entry)) ⌝ }
 {
-    let chain = s.chain;
-    let last = s.length as usize - 1;
+    let last = chain.len() - 1;
     let mut ticks = 0u32;
     let mut j = 0usize;
     while j < last {
@@ -173,19 +176,42 @@ fn bound_in(s: Sheet, responses: &[u32; 16]) -> u32
 }
 
 // The same from a flag on, which waits for its job up to T − 1 of the first task.
-fn bounds_in(s: Sheet, responses: &[u32; 16]) -> Bounds
+fn bounds_along(s: Sheet, chain: &[u8], responses: &[u32; 16]) -> Bounds
     requires { ⌜ Sound s ⌝ }
     requires { ⌜ Responding s (now responses) ⌝ }
-    ensures { λ r. ⌜ r ≡ boundsOf (tasksOf s) (chainOf s) ⌝ }
+    requires { ⌜ ChainOn s (now chain) ⌝ }
+    ensures { λ r. ⌜ r ≡ boundsOf (tasksOf s) (now (chain .entry)) ⌝ }
 {
-    let chain = s.chain;
     let p = chain[0] as usize;
-    let sampling_bound = bound_in(s, responses);
+    let sampling_bound = bound_along(s, chain, responses);
     let bound = sampling_bound + (s.tasks[p].period - 1);
     Bounds {
         sampling_bound,
         bound,
     }
+}
+
+// The chain of a number.
+fn chain_of(s: Sheet, number: u8) -> Chain
+    requires { ⌜ Sound s ⌝ }
+    requires { ⌜ lacks s number ≡ fine ⌝ }
+    ensures { λ r. ⌜ (r ≡ chainAt s number) × (length (r .entries) ≡ 16) ⌝ }
+{
+    let place = number as usize - 1;
+    s.chains[place]
+}
+
+// The bounds of the chain of a number.
+fn bounds_of(s: Sheet, number: u8, responses: &[u32; 16]) -> Bounds
+    requires { ⌜ Sound s ⌝ }
+    requires { ⌜ Responding s (now responses) ⌝ }
+    requires { ⌜ lacks s number ≡ fine ⌝ }
+    ensures { λ r. ⌜ r ≡ boundsOf (tasksOf s) (chainOf s number) ⌝ }
+{
+    let c = chain_of(s, number);
+    let entries = c.entries;
+    let m = c.length as usize;
+    bounds_along(s, &entries[..m], responses)
 }
 
 // The refusal in an answer that gives no bound. Number 0, which no refusal has, stands for none.
@@ -198,28 +224,35 @@ pub fn bound_refusal(q: Quick) -> Refusal
     r
 }
 
-// The quick bound of the sheet's chain with no table, and the response of each task in its place; zeros where it is refused.
-pub fn bound(s: Sheet) -> QuickBound
-    ensures { λ r. ⌜ BoundPromise s r ⌝ }
+// A refusal, with zeros for the responses.
+fn refused(v: Verdict) -> QuickBound
+    ensures { λ r. ⌜ (r .answer ≡ No (refusalIn v)) × (r .responses ≡ noResponses) ⌝ }
+{
+    let refusal = answers::refusal_of(v);
+    QuickBound {
+        answer: Quick::No(refusal),
+        responses: [0u32; 16],
+    }
+}
+
+// The quick bound of a chain with no table, and the response of each task in its place; zeros where it is refused.
+pub fn bound(s: Sheet, number: u8) -> QuickBound
+    ensures { λ r. ⌜ BoundPromise s number r ⌝ }
 {
     let v = sheet::judge(s);
     let Verdict::Fine = v else {
-        let refusal = answers::refusal_of(v);
-        return QuickBound {
-            answer: Quick::No(refusal),
-            responses: [0u32; 16],
-        };
+        return refused(v);
+    };
+    let named = sheet::numbered(s, number);
+    let Verdict::Fine = named else {
+        return refused(named);
     };
     let responses = each_response(s);
     let late = passing(s, &responses);
     let Verdict::Fine = late else {
-        let refusal = answers::refusal_of(late);
-        return QuickBound {
-            answer: Quick::No(refusal),
-            responses: [0u32; 16],
-        };
+        return refused(late);
     };
-    let bounds = bounds_in(s, &responses);
+    let bounds = bounds_of(s, number, &responses);
     QuickBound {
         answer: Quick::Of(bounds),
         responses,

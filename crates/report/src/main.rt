@@ -1,7 +1,7 @@
-// The report of one timing sheet, read from standard input: document 01's lines, or the refusal.
+// The report of one timing sheet, read from standard input: document 01's lines, those of a chain once for each, or the refusal.
 use answers::Verdict;
-use chain::Figures;
 use chain::Summary;
+use schedule::Responses;
 use schedule::Totals;
 use sheet::Sheet;
 
@@ -26,7 +26,7 @@ fn print_totals(s: Sheet, t: Totals) {
     io::write_all(1, b"\n");
 }
 
-// "the worst figure and its smallest release; the bound; the margin under the default limit"
+// "the worst figure and its smallest release; the bound", and the margin "under its limit"
 fn print_figures(worst: u32, release: u32, bound: u32, margin: i32) {
     page::print_number(b"worst ", worst);
     page::print_number(b" from ", release);
@@ -35,12 +35,26 @@ fn print_figures(worst: u32, release: u32, bound: u32, margin: i32) {
     io::write_all(1, b"\n");
 }
 
-fn print_summary(s: Sheet, summary: Summary, greatest: [u32; 16]) {
-    print_totals(s, summary.totals);
-    page::print_tasks(s, greatest);
-    page::print_chain(s);
-    let release = summary.sampling.release;
-    print_figures(summary.worst, release, summary.bound, summary.margin);
+// "the report prints the chain lines once per chain"
+fn print_chains(s: Sheet, chains: [Summary; 8]) {
+    let mut k = 0u8;
+    while k < 8 {
+        let v = sheet::numbered(s, k + 1);
+        let Verdict::Fine = v else {
+            return;
+        };
+        let j = k as usize;
+        page::print_chain(s.chains[j]);
+        let summary = chains[j];
+        let sampling = summary.sampling;
+        print_figures(
+            summary.worst,
+            sampling.release,
+            summary.bound,
+            summary.margin,
+        );
+        k += 1;
+    }
 }
 
 // Everything is worked out before the first line is printed, so that a refusal stands alone.
@@ -51,16 +65,19 @@ fn report(bytes: &[u8], table: &mut [u32]) {
         return page::print_refusal(answers::refusal_of(v));
     };
     let s = r.sheet;
-    let f = chain::figures(s, table);
+    let f = chain::suite(s, table);
     let answer = f.answer;
-    let Figures::Of(summary) = answer else {
-        return page::print_refusal(chain::figures_refusal(answer));
+    let Responses::Table(totals) = answer else {
+        return page::print_refusal(schedule::responses_refusal(answer));
     };
+    print_totals(s, totals);
     let greatest = f.greatest;
-    print_summary(s, summary, greatest);
+    page::print_tasks(s, greatest);
+    let chains = f.chains;
+    print_chains(s, chains);
 }
 
-// What lies past the 95th byte never changes the reader's answer, so a buffer of 4,096 serves inputs of any length.
+// What lies past the 179th byte never changes the reader's answer, so a buffer of 4,096 serves inputs of any length.
 fn main() {
     let mut input = io::buffer();
     let n = io::read_full(0, &mut input);

@@ -1,5 +1,6 @@
 -- How the call ends: the answer and the table in each case are those of the definitions.
 use mathlib.Core.Path.{_≡_, refl, sym, ap, ap₂, _∙_, subst}
+use mathlib.Core.Logic.{_≢_}
 use mathlib.Core.List.{List, [], _∷_, _++_}
 use mathlib.Core.Bool.{cond}
 use Prim.Native.Nat.{ℕ, _≤_, _<_}
@@ -20,7 +21,7 @@ use Rattle.schedule.specs.declared.answer.Size.{Size}
 use Rattle.schedule.specs.declared.answer.Found.the-variants.{Lowest, Late as LateFound}
 use Rattle.schedule.specs.Calls.{lateGreatest, rows, sizesOf, responsesOf, tableAfter}
 use Rattle.schedule.specs.Promises.{AnswersAs}
-use Rattle.schedule.specs.NumberLaws.{sizes-numbered}
+use Rattle.schedule.specs.NumberLaws.{sizes-never-15}
 use Rattle.schedule.specs.CallLaws.{sizes-given, responses-refused, responses-small, responses-late, responses-full}
 use Rattle.schedule.specs.Conditions.{LowestTo, Filled}
 use Rattle.schedule.proofs.Notes.{lowest-idle}
@@ -29,11 +30,11 @@ module _ (s : Sheet) (old : List ℕ) where
   answers : {answer : Answer Totals} {table : List ℕ} → responsesOf s (length old) ≡ answer → table ≡ tableAfter answer (tasksOf s) old → AnswersAs (responsesOf s (length old)) s old answer table
   answers e t = (sym e, t ∙ ap (λ x. tableAfter x (tasksOf s) old) (sym e))
 
-  untouched : (n : ℕ) → n ≤ 14 → old ≡ cond (eqb n 15) (replicate (allJobs (tasksOf s)) 0 ++ drop (allJobs (tasksOf s)) old) old
-  untouched n l = rw (ne-eqb n 15 (λ z. omega arith))
+  untouched : (n : ℕ) → n ≢ 15 → old ≡ cond (eqb n 15) (replicate (allJobs (tasksOf s)) 0 ++ drop (allJobs (tasksOf s)) old) old
+  untouched n d = rw (ne-eqb n 15 d)
 
   pub answers-refused : (r : Refusal) → sizesOf s ≡ refusal r → AnswersAs (responsesOf s (length old)) s old (refusal r) old
-  answers-refused r e = let l : numberIn r ≤ 11 = sizes-numbered s .most e in answers (responses-refused s (length old) r e) (untouched (numberIn r) (omega arith))
+  answers-refused r e = answers (responses-refused s (length old) r e) (untouched (numberIn r) (sizes-never-15 s .differs e))
 
   module _ {size : Size} (fits : sizesOf s ≡ given size) where
     pub answers-small : length old < size .jobs → AnswersAs (responsesOf s (length old)) s old (refused 14 []) old

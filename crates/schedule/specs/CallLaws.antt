@@ -1,14 +1,15 @@
 -- The answers case by case: what each is given for, and what is known where it is given.
-use mathlib.Core.Path.{_≡_, sym, ap, _∙_}
+use mathlib.Core.Path.{_≡_, refl, sym, ap, _∙_}
 use mathlib.Core.List.{[], _∷_}
 use Prim.Native.Nat.{ℕ, _≤_, _<_}
 use lib.Dec.{ltb}
-use lib.ListN.{length}
+use lib.ListN.{length, replicate}
 use borrow.Author.Tests.{ltb-false, lt-ltb, le-ltb}
+use Rattle.bits.specs.Bits.{listOf}
 use Rattle.theory.specs.Model.Schedule.{idle, busy}
 use Rattle.theory.specs.Model.Responses.{hyperperiod, allJobs, idleTicks}
 use Rattle.answers.specs.declared.Refusal.{Refusal}
-use Rattle.answers.specs.Answers.{Answer, given, refused, fine, when, refusal}
+use Rattle.answers.specs.Answers.{Answer, given, refused, fine, when, after, refusal}
 use Rattle.answers.specs.AnswerLaws.{when-fine, also-given}
 use Rattle.sheet.specs.declared.Sheet.{Sheet}
 use Rattle.sheet.specs.Calls.{judgeOf}
@@ -19,7 +20,7 @@ use Rattle.schedule.specs.declared.answer.Responses.the-variants.{No}
 use Rattle.schedule.specs.declared.answer.Size.{Size}
 use Rattle.schedule.specs.declared.answer.Sizes.{Sizes}
 use Rattle.schedule.specs.declared.answer.Sizes.the-variants.{No as NoSize}
-use Rattle.schedule.specs.Calls.{mostTicks, mostJobs, lateGreatest, sizesOf, responsesOf, toldSize, toldTotals, sizesRefusal, responsesRefusal}
+use Rattle.schedule.specs.Calls.{mostTicks, mostJobs, lateGreatest, sizesOf, responsesOf, greatestAfter, toldSize, toldTotals, sizesRefusal, responsesRefusal}
 
 -- "a refusal met on the way is handed up unchanged": what is handed up is the refusal that the answer holds.
 pub sizes-no : {z : Sizes} {r q : Refusal} {x : Answer Size} → toldSize z ≡ x → z ≡ NoSize r → q ≡ sizesRefusal z → x ≡ refusal q
@@ -89,3 +90,15 @@ module _ (s : Sheet) (room : ℕ) {size : Size} (fits : sizesOf s ≡ given size
       → responsesOf s room ≡ given (record { hyperperiod = size .hyperperiod; jobs = size .jobs; idle = idleTicks (tasksOf s) })
   unfolding responsesOf
   responses-full l e = rw (fits, le-ltb room (size .jobs) l, e)
+
+-- ---- the greatest responses
+
+-- A refusal leaves zeros,
+pub greatest-none : {A : Type 0} {a : Answer A} (r : Refusal) (s : Sheet) → a ≡ refusal r → replicate 16 0 ≡ greatestAfter a s
+unfolding listOf
+greatest-none r s e = sym (ap (λ a. greatestAfter a s) e)
+
+-- and what is worked out after the table is filled changes nothing.
+pub greatest-kept : {A B : Type 0} (a : Answer A) (f : A → B) (s : Sheet) → greatestAfter a s ≡ greatestAfter (after a (λ x. given (f x))) s
+greatest-kept (given x) f s = refl
+greatest-kept (refused number values) f s = refl

@@ -15,7 +15,8 @@ use Rattle.answers.specs.declared.Refusal.{Refusal}
 use Rattle.answers.specs.declared.Refusal.the-variants.{Number}
 use Rattle.answers.specs.Answers.{Answer, given, refused, when, after, also, refusal}
 use Rattle.sheet.specs.Calls.{places, judgeOf}
-use Rattle.sheet.specs.Tasks.{tasksOf, lateness}
+use Rattle.sheet.specs.Tasks.{tasksOf}
+use Rattle.sheet.specs.Lateness.{lateness}
 use Rattle.schedule.specs.declared.answer.Totals.{Totals}
 use Rattle.schedule.specs.declared.answer.Responses.{Responses}
 use Rattle.schedule.specs.declared.answer.Responses.the-variants.{Table, No}
@@ -42,7 +43,7 @@ mostTicks = 1000000
 abbrev pub mostJobs : ℕ
 mostJobs = 8192
 
--- H and J: "2 to 8", "After that 10, 11".
+-- H and J: the fields, "After that 10, 11".
 unfoldable pub sizesOf : Sheet → Answer Size
 sizesOf s =
     also (judgeOf s)
@@ -73,9 +74,9 @@ tableAfter (given x) ts old = rows ts (length ts) ++ drop (allJobs ts) old
 tableAfter (refused number values) ts old = cond (eqb number 15) (replicate (allJobs ts) 0 ++ drop (allJobs ts) old) old
 
 -- "R, the greatest response" of each task of the sheet, in its place; zeros with a refusal.
-abbrev pub greatestAfter : Answer Totals → Sheet → List ℕ
-greatestAfter (given totals) s = places 0 (s .count) (taskResponse (tasksOf s))
-greatestAfter (refused number values) s = places 0 0 (taskResponse (tasksOf s))
+abbrev pub greatestAfter : {A : Type 0} → Answer A → Sheet → List ℕ
+greatestAfter (given x) s = places 16 0 (s .count) (taskResponse (tasksOf s))
+greatestAfter (refused number values) s = places 16 0 0 (taskResponse (tasksOf s))
 
 -- Document 01's answer for each case of the code's enums.
 abbrev pub toldTotals : Responses → Answer Totals

@@ -17,14 +17,16 @@ use Rattle.answers.specs.AnswerLaws.{when-fine, also-given}
 use Rattle.sheet.specs.declared.Sheet.{Sheet}
 use Rattle.sheet.specs.Calls.{judgeOf}
 use Rattle.sheet.specs.SoundLaws.{judged-sound}
-use Rattle.sheet.specs.Tasks.{tasksOf, lateness}
-use Rattle.sheet.specs.TaskLaws.{tasks-length, task-allowed, sound-proper, lateness-fine}
+use Rattle.sheet.specs.Tasks.{tasksOf}
+use Rattle.sheet.specs.Lateness.{lateness}
+use Rattle.sheet.specs.TaskLaws.{tasks-length, task-allowed, sound-proper}
+use Rattle.sheet.specs.LatenessLaws.{lateness-fine}
 use Rattle.schedule.specs.declared.answer.Totals.{Totals}
 use Rattle.schedule.specs.declared.answer.Size.{Size}
 use Rattle.schedule.specs.Calls.{mostTicks, mostJobs, lateGreatest, sizesOf, responsesOf, rows}
 use Rattle.schedule.specs.Taken.{Taken}
 use Rattle.schedule.specs.Lateness.{GreatestLate, idle-accepted, busy-greatest, accepted-idle, greatest-busy}
-use Rattle.schedule.specs.NumberLaws.{sizes-numbered}
+use Rattle.schedule.specs.NumberLaws.{sizes-never-15}
 use Rattle.schedule.specs.CallLaws.{sizes-fit, Sized, sizes-given, responses-late, responses-full}
 
 -- When each answer is given
@@ -95,7 +97,7 @@ module _ (s : Sheet) (room : ℕ) where
   responses-15 {i} = go (sizesOf s) refl
     where
       go : (x : Answer Size) → sizesOf s ≡ x → after x rest ≡ refused 15 (i ∷ []) → LateWhen s room i
-      go (refused number values) q e = absurd (omega (arith, same e, sizes-numbered s .most q))
+      go (refused number values) q e = absurd (sizes-never-15 s .differs q (same e))
         where
           same : _≡_ {A = Answer Totals} (refused number values) (refused 15 (i ∷ [])) → number ≡ 15
           same h = cc

@@ -350,7 +350,7 @@ pub fn responses_refusal(a: Responses) -> Refusal
 // R of each task, in sixteen places, from the rows of a table.
 fn greatest_each(s: Sheet, h: u32, table: &[u32]) -> [u32; 16]
     requires { ⌜ Sound s ⌝ ∗ ⌜ Period s h ⌝ ∗ ⌜ Holds (tasksOf s) (now table) ⌝ }
-    ensures { λ r. ⌜ r ≡ places 0 (s .count) (taskResponse (tasksOf s)) ⌝ }
+    ensures { λ r. ⌜ r ≡ places 16 0 (s .count) (taskResponse (tasksOf s)) ⌝ }
 {
     let n = s.count as usize;
     let mut each = [0u32; 16];

@@ -8,7 +8,7 @@ use Rattle.sheet.specs.declared.Written.the-variants.{Bytes, No as NoByt
 use Rattle.answers.specs.declared.Refusal.{Refusal}
 use Rattle.answers.specs.declared.Refusal.the-variants.{Number}
 use Rattle.answers.specs.Answers.{Answer, given, refused, also, refusal, told}
-use Rattle.sheet.specs.Calls.{places}
+use Rattle.sheet.specs.Calls.{places, unused}
 
 abbrev pub toldBytes : Written → Answer ℕ
 toldBytes (Bytes size) = given size
@@ -22,9 +22,9 @@ noBytes (NoBytes r) = r
 abbrev pub toldSheet : Reading → Answer Sheet
 toldSheet r = also (told (r .verdict)) (given (r .sheet))
 
--- A sheet with nothing on it stands beside a refused reading.
+-- A sheet with nothing on it stands beside a refusal.
 abbrev pub blank : Sheet
-blank = record { tasks = places none 0 (λ i. none); chain = places 0 0 (λ i. 0); count = 0; length = 0 }
+blank = record { tasks = places 16 none 0 (λ i. none); chains = places 8 unused 0 (λ c. unused); edition = 0; count = 0; suite = 0 }
 
 abbrev pub sheetIn : Answer Sheet → Sheet
 sheetIn (given s) = s

@@ -1,99 +1,25 @@
--- Laws of the fields: which are the same, each follows the one before it, and one value among others.
-use mathlib.Core.Path.{_≡_, refl, sym, ap, ap₂, _∙_}
-use mathlib.Core.Bool.{Bool, true, false, cond}
-use mathlib.Core.List.{List, [], _∷_, _++_}
-use Prim.Native.Nat.{ℕ, zero, suc, _+_, _-_, _*_, _≤_, _<_}
-use native.Mathlib.Numerals.{add-one}
+-- Laws of one field: its width, and one value among others.
+use mathlib.Core.Path.{_≡_, refl, ap, ap₂, _∙_}
+use mathlib.Core.Bool.{true, false, cond}
+use Prim.Native.Nat.{ℕ, zero, suc, _-_, _≤_, _<_}
 use native.Mathlib.Omega.{arith}
-use lib.Dec.{ltb, eqb}
-use borrow.Author.Tests.{lt-ltb, le-ltb, eq-eqb, ne-eqb, eqb-true}
+use lib.Dec.{eqb}
+use borrow.Author.Tests.{eq-eqb, ne-eqb}
 use Rattle.sheet.specs.declared.Field.{Field}
-use Rattle.sheet.specs.declared.Field.the-variants.{Count, Period, Budget, Rank, Length, Entry}
-use Rattle.sheet.specs.Fields.{taskFields, entryFields, fields, width, kind, index, same, among}
-use Rattle.sheet.specs.Order.{opening, next}
+use Rattle.sheet.specs.declared.Field.the-variants.{Mark, Edition, Count, Period, Budget, Rank, Chains, Limit, Length, Entry}
+use Rattle.sheet.specs.Fields.{width, among}
 
--- ---- one field
-
-pub width-small : (f : Field) → (0 < width f) × (width f ≤ 17)
+pub width-small : (f : Field) → (0 < width f) × (width f ≤ 22)
+width-small Mark = (omega arith, omega arith)
+width-small Edition = (omega arith, omega arith)
 width-small Count = (omega arith, omega arith)
 width-small (Period i) = (omega arith, omega arith)
 width-small (Budget i) = (omega arith, omega arith)
 width-small (Rank i) = (omega arith, omega arith)
-width-small Length = (omega arith, omega arith)
-width-small (Entry i) = (omega arith, omega arith)
-
-pub same-itself : (f : Field) → same f f ≡ true
-same-itself f = ap₂ (λ a b. cond a b false) (eq-eqb (kind f) (kind f) refl) (eq-eqb (index f) (index f) refl)
-
--- kind and index tell the field
-fieldOf : ℕ → ℕ → Field
-fieldOf zero i = Count
-fieldOf (suc zero) i = Period i
-fieldOf (suc (suc zero)) i = Budget i
-fieldOf (suc (suc (suc zero))) i = Rank i
-fieldOf (suc (suc (suc (suc zero)))) i = Length
-fieldOf (suc (suc (suc (suc (suc k))))) i = Entry i
-
-field-of : (f : Field) → fieldOf (kind f) (index f) ≡ f
-unfolding fieldOf
-field-of Count = refl
-field-of (Period i) = refl
-field-of (Budget i) = refl
-field-of (Rank i) = refl
-field-of Length = refl
-field-of (Entry i) = refl
-
-pub same-is : (f g : Field) → same f g ≡ true → f ≡ g
-same-is f g e = go (eqb (kind f) (kind g)) refl e
-  where
-    go : (b : Bool) → eqb (kind f) (kind g) ≡ b → cond b (eqb (index f) (index g)) false ≡ true → f ≡ g
-    go true q h = sym (field-of f) ∙ ap₂ fieldOf (eqb-true (kind f) (kind g) q) (eqb-true (index f) (index g) h) ∙ field-of g
-    go false q h = let z : _≡_ {A = ℕ} 0 1 = cc in absurd (omega arith)
-
-index-opening : (n i : ℕ) → index (opening n i) ≤ i
-index-opening n i = go (ltb i n)
-  where
-    go : (b : Bool) → index (cond b (Period i) Length) ≤ i
-    go true = omega arith
-    go false = omega arith
-
-pub index-next : (n : ℕ) (f : Field) → index (next n f) ≤ index f + 1
-index-next n Count = omega (arith, index-opening n 0)
-index-next n (Period i) = omega arith
-index-next n (Budget i) = omega arith
-index-next n (Rank i) = index-opening n (i + 1)
-index-next n Length = omega arith
-index-next n (Entry i) = omega arith
-
--- ---- the fields in order, each after the one before it
-
-unfoldable pub onward : ℕ → Field → ℕ → List Field
-onward n f zero = []
-onward n f (suc left) = f ∷ onward n (next n f) left
-
-onward-entries : (n i m : ℕ) → onward n (Entry i) m ≡ entryFields i m
-unfolding onward entryFields
-onward-entries n i zero = refl
-onward-entries n i (suc m) = ap (λ l. Entry i ∷ l) (ap (λ j. onward n (Entry j) m) (add-one i) ∙ onward-entries n (suc i) m)
-
-onward-tasks : (n m k i : ℕ) → i + k ≡ n → onward n (opening n i) (3 * k + suc m) ≡ taskFields i k ++ Length ∷ entryFields 0 m
-unfolding onward taskFields
-onward-tasks n m zero i h =
-    ap₂ (λ b w. onward n (cond b (Period i) Length) w) {u = 3 * 0 + suc m} {v = suc m} (le-ltb i n (omega arith)) (omega arith)
-    ∙ ap (λ l. Length ∷ l) (onward-entries n 0 m)
-onward-tasks n m (suc k) i h =
-    ap₂ (λ b w. onward n (cond b (Period i) Length) w) {u = 3 * suc k + suc m} {v = suc (suc (suc (3 * k + suc m)))} (lt-ltb i n (omega arith)) (omega arith)
-    ∙ ap (λ l. Period i ∷ Budget i ∷ Rank i ∷ l) (ap (λ j. onward n (opening n j) (3 * k + suc m)) (add-one i) ∙ onward-tasks n m k (suc i) (omega arith))
-
-pub fields-onward : (n m : ℕ) → fields n m ≡ onward n Count (2 + 3 * n + m)
-unfolding onward
-fields-onward n m =
-    ap (λ l. Count ∷ l) (sym (onward-tasks n m n 0 (omega arith)))
-    ∙ ap (onward n Count) {x = suc (3 * n + suc m)} {y = 2 + 3 * n + m} (omega arith)
-
-pub onward-step : (n left : ℕ) (f : Field) → 0 < left → onward n f left ≡ f ∷ onward n (next n f) (left - 1)
-unfolding onward
-onward-step n left f h = ap (onward n f) {x = left} {y = suc (left - 1)} (omega arith)
+width-small Chains = (omega arith, omega arith)
+width-small (Limit c) = (omega arith, omega arith)
+width-small (Length c) = (omega arith, omega arith)
+width-small (Entry c i) = (omega arith, omega arith)
 
 -- ---- one value among others
 
@@ -115,3 +41,7 @@ pub among-same : (f g : ℕ → ℕ) (i v : ℕ) → ((j : ℕ) → j < i → f 
 unfolding among
 among-same f g zero v h = refl
 among-same f g (suc i) v h = ap₂ (λ x b. cond (eqb x v) true b) (h i (omega arith)) (among-same f g i v (λ j l. h j (omega arith)))
+
+-- a value that repeats none before it, where those up to it are the same
+pub fresh-same : (f g : ℕ → ℕ) (i : ℕ) → ((j : ℕ) → j ≤ i → f j ≡ g j) → among f i (f i) ≡ among g i (g i)
+fresh-same f g i h = ap (among f i) (h i (omega arith)) ∙ among-same f g i (g i) (λ j l. h j (omega arith))

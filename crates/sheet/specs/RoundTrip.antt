@@ -2,15 +2,14 @@
 use mathlib.Core.Path.{_≡_, refl, sym, ap, _∙_, subst}
 use mathlib.Core.Logic.{_↔_}
 use mathlib.Core.List.{List, _++_}
-use Prim.Native.Nat.{ℕ, _≤_, _<_}
+use Prim.Native.Nat.{ℕ, _≤_}
 use native.Mathlib.Omega.{arith}
 use lib.Dec.{ltb}
-use lib.ListN.{length, getD, take, drop}
+use lib.ListN.{length, take, drop}
 use lib.Seq.{take-at}
 use borrow.Author.Tests.{le-ltb}
 use Rattle.bits.specs.Bits.{written, bytesFor}
 use Rattle.bits.specs.Bytes.{Bytes as AreBytes}
-use Rattle.theory.specs.Model.Schedule.{none}
 use Rattle.answers.specs.declared.Verdict.the-variants.{Fine}
 use Rattle.answers.specs.Answers.{given, fine, when, also}
 use Rattle.answers.specs.AnswerLaws.{also-given, also-fine}
@@ -18,22 +17,20 @@ use Rattle.sheet.specs.declared.Sheet.{Sheet}
 use Rattle.sheet.specs.declared.Reading.{Reading}
 use Rattle.sheet.specs.declared.Written.{Written}
 use Rattle.sheet.specs.declared.Written.the-variants.{Bytes}
-use Rattle.sheet.specs.Calls.{judgeOf, packed, encoded, sizeOf, writeOf, bufferAfter, RanksFit, taskBy, cleared, readOf}
-use Rattle.sheet.specs.Fields.{value}
+use Rattle.sheet.specs.Calls.{judgeOf, packed, encoded, sizeOf, writeOf, bufferAfter, RanksFit, cleared, readOf}
+use Rattle.sheet.specs.Fields.{kindOf, fields, value}
 use Rattle.sheet.specs.Answers.{toldBytes, sheetIn}
 use Rattle.sheet.specs.Promises.{ReadPromise, WritePromise}
 use Rattle.sheet.specs.AnswerLaws.{given-fine, bytes-told}
-use Rattle.sheet.specs.FormatLaws.{widths-fields, length-bits-of}
-use Rattle.sheet.specs.PlaceLaws.{places-taken}
+use Rattle.sheet.specs.EachLaws.{All, each-all}
+use Rattle.sheet.specs.SizeLaws.{least, most, size-least, size-most}
 use Rattle.sheet.specs.SoundLaws.{judged-sound}
-use Rattle.sheet.specs.EncodedLaws.{length-encoded, encoded-read, read-encoded, read-judged}
+use Rattle.sheet.specs.EncodedLaws.{length-packed, length-encoded, fields-same, all-cleared, kind-cleared, encoded-read, read-encoded, read-judged}
 
--- "the same counts, tasks and chain"
+-- "the same counts, tasks and chain": the same fields, with the same in each.
 pub record Same (s t : Sheet) : Type 0 where
-  pub count : s .count ≡ t .count
-  pub length : s .length ≡ t .length
-  pub tasks : (i : ℕ) → i < s .count → getD (s .tasks) i none ≡ getD (t .tasks) i none
-  pub chain : (i : ℕ) → i < s .length → getD (s .chain) i 0 ≡ getD (t .chain) i 0
+  pub fields-alike : fields (value s) ≡ fields (value t)
+  pub values-alike : All (λ f. value s f ≡ value t f) (fields (value s))
 
 -- what was written is judged fine, and as long as its bytes
 written-fine : (s : Sheet) (room n : ℕ) → writeOf s room ≡ given n → (judgeOf s ≡ fine) × (n ≡ sizeOf s)
@@ -52,16 +49,15 @@ fine-written s room e h =
 
 written-encoded : (s : Sheet) (old : List ℕ) → written (packed s) old ≡ encoded s ++ drop (sizeOf s) old
 unfolding written
-written-encoded s old = ap (λ k. encoded s ++ drop (bytesFor k) old) (length-bits-of s)
+written-encoded s old = ap (λ k. encoded s ++ drop (bytesFor k) old) (length-packed s)
 
 cleared-same : (s : Sheet) → judgeOf s ≡ fine → Same s (cleared s)
 cleared-same s e =
+    let v = value s in
     let sound = judged-sound s e in
     record {
-      count = refl;
-      length = refl;
-      tasks = λ i l. sym (places-taken none (taskBy (value s)) (s .count) i l (omega (arith, sound .count-most)));
-      chain = λ i l. sym (places-taken 0 (λ j. getD (s .chain) j 0) (s .length) i l (omega (arith, sound .length-most, sound .count-most)));
+      fields-alike = fields-same v (value (cleared s)) (kind-cleared s sound) (all-cleared s sound);
+      values-alike = each-all (λ f. v f ≡ value (cleared s) f) (kindOf v) v (all-cleared s sound);
     }
 
 -- ---- the theorems
@@ -98,15 +94,16 @@ accepted-exactly bytes fit = (
   λ r. (cleared (r .0), ap readOf (sym (r .3)) ∙ encoded-read (r .0) (r .1) (r .2)),
 )
 
--- "A sheet is 7 to 94 bytes."
-pub size-range : (s : Sheet) → judgeOf s ≡ fine → (7 ≤ length (encoded s)) × (length (encoded s) ≤ 94)
+-- "A sheet is 7 to 94 bytes", and one of the second edition 12 to 178.
+pub size-range : (s : Sheet) → judgeOf s ≡ fine → (least (kindOf (value s)) ≤ length (encoded s)) × (length (encoded s) ≤ most (kindOf (value s)))
 size-range s e =
-    let sound = judged-sound s e in
-    let end = widths-fields (s .count) (s .length) in
-    (omega (arith, length-encoded s, end, sound), omega (arith, length-encoded s, end, sound))
+    let kind = kindOf (value s) in (
+      omega (arith, length-encoded s, size-least kind (value s) (judged-sound s e)),
+      omega (arith, length-encoded s, size-most kind (value s)),
+    )
 
 -- and so many are written
-pub written-range : (s : Sheet) (room n : ℕ) → writeOf s room ≡ given n → (7 ≤ n) × (n ≤ 94)
+pub written-range : (s : Sheet) (room n : ℕ) → writeOf s room ≡ given n → (least (kindOf (value s)) ≤ n) × (n ≤ most (kindOf (value s)))
 written-range s room n e =
     let f = written-fine s room n e in
     let r = size-range s (f .0) in

@@ -1,22 +1,26 @@
--- The tasks and the chain of a sheet that is judged fine: each place's task in the list, proper tasks, and a chain of them.
+-- The tasks and the chains of a sheet that is judged fine: each place's task in the list, proper tasks, and a chain of them.
 use mathlib.Core.Path.{_≡_, refl, sym, ap, ap₂, _∙_, subst}
 use mathlib.Core.Logic.{_≢_}
+use mathlib.Core.Bool.{Bool, true, false, cond}
 use mathlib.Core.List.{List, [], _∷_}
-use Prim.Native.Nat.{ℕ, suc, _/_, _≤_, _<_}
+use Prim.Native.Nat.{ℕ, suc, _-_, _/_, _≤_, _<_}
 use native.Mathlib.Decide.{decLe}
 use native.Mathlib.Omega.{arith}
+use lib.Dec.{eqb}
 use lib.ListN.{length, getD, length-take, List·getD-eq-default}
 use lib.Seq.{length-take-le, getD-take}
 use Rattle.theory.specs.declared.Task.{Task}
-use Rattle.theory.specs.Model.Schedule.{none, period, budget, rank, Proper, Slot, idle, busy}
+use Rattle.theory.specs.Model.Schedule.{none, period, budget, rank, Proper}
 use Rattle.theory.specs.Model.Responses.{hyperperiod, jobs}
 use Rattle.theory.specs.Model.Chain.{Chain}
-use Rattle.answers.specs.Answers.{fine}
-use Rattle.answers.specs.AnswerLaws.{refused-given}
-use Rattle.answers.specs.NumberLaws.{Numbered, given-numbered, refused-numbered}
 use Rattle.sheet.specs.declared.Sheet.{Sheet}
-use Rattle.sheet.specs.Sound.{Sound}
-use Rattle.sheet.specs.Tasks.{tasksOf, chainOf, firstOf, restOf, lateness}
+use Rattle.sheet.specs.declared.Field.the-variants.{Entry}
+use Rattle.answers.specs.Answers.{fine}
+use Rattle.answers.specs.AnswerLaws.{when-fine}
+use Rattle.sheet.specs.Fields.{old, new, kindOf, chains, value}
+use Rattle.sheet.specs.Sound.{Within, Sound}
+use Rattle.sheet.specs.SoundLaws.{inside}
+use Rattle.sheet.specs.Tasks.{tasksOf, chainCount, lacks, chainAt, chainOf, firstOf, restOf}
 
 -- A task whose T and C are allowed.
 pub record Allowed (t : Task) : Type 0 where
@@ -95,35 +99,41 @@ entries-chain ts (p ∷ c ∷ rest) some known differ = (
   entries-chain ts (c ∷ rest) some (λ i l. known (suc i) (omega arith)) (λ i l. differ (suc i) (omega arith)),
 )
 
--- The chain
+-- The chains
 
-module _ {s : Sheet} (sound : Sound s) where
-  pub chain-length : length (s .chain) ≡ 16 → length (chainOf s) ≡ s .length
-  chain-length whole = length-take-le (s .length) (s .chain) (omega (arith, sound .length-most, sound .count-most))
+-- how many there are
+pub chain-count : {s : Sheet} → Sound s → chainCount s ≡ chains (kindOf (value s)) (value s)
+chain-count {s} sound = go (eqb (s .edition) 1) sound
+  where
+    go : (b : Bool) → Within (cond (eqb (cond b 0 31) 31) new old) (value s) → cond b 1 (s .suite) ≡ chains (cond (eqb (cond b 0 31) 31) new old) (value s)
+    go true w = refl
+    go false w = sym (w .chains-are tt)
 
-  pub chain-most : length (chainOf s) ≤ 16
-  chain-most = omega (arith, length-take (s .length) (s .chain), sound .length-most, sound .count-most)
+module _ {s : Sheet} (sound : Sound s) (number : ℕ) (known : lacks s number ≡ fine) where
+  -- the place of the chain among the eight
+  pub chain-place : number - 1 < chains (kindOf (value s)) (value s)
+  chain-place = let r = inside 1 (chainCount s) number (when-fine _ 17 known) in omega (arith, r, chain-count sound)
 
-  entry-at : (i : ℕ) → i < length (chainOf s) → (getD (chainOf s) i 0 ≡ getD (s .chain) i 0) × (i < s .length)
-  entry-at i l = let m : i < s .length = omega (arith, length-take (s .length) (s .chain)) in (getD-take (s .length) (s .chain) i 0 m, m)
+  pub chain-length : length (chainAt s number .entries) ≡ 16 → length (chainOf s number) ≡ chainAt s number .length
+  chain-length whole =
+      length-take-le (chainAt s number .length) (chainAt s number .entries) (omega (arith, sound .length-most (number - 1) chain-place, sound .count-most))
 
-  pub entry-listed : (i : ℕ) → i < length (chainOf s) → getD (chainOf s) i 0 < length (tasksOf s)
-  entry-listed i l = let e = entry-at i l in omega (arith, e .0, sound .entry-below i (e .1), tasks-length sound)
+  pub chain-most : length (chainOf s number) ≤ 16
+  chain-most =
+      omega (arith, length-take (chainAt s number .length) (chainAt s number .entries), sound .length-most (number - 1) chain-place, sound .count-most)
 
-  pub chain-known : Chain (tasksOf s) (firstOf (chainOf s)) (restOf (chainOf s))
-  chain-known = entries-chain (tasksOf s) (chainOf s) (omega (arith, tasks-length sound, sound .count-least))
+  entry-at : (i : ℕ) → i < length (chainOf s number) → (getD (chainOf s number) i 0 ≡ value s (Entry (number - 1) i)) × (i < chainAt s number .length)
+  entry-at i l =
+      let c = chainAt s number in
+      let m : i < c .length = omega (arith, length-take (c .length) (c .entries)) in (getD-take (c .length) (c .entries) i 0 m, m)
+
+  pub entry-listed : (i : ℕ) → i < length (chainOf s number) → getD (chainOf s number) i 0 < length (tasksOf s)
+  entry-listed i l = let e = entry-at i l in omega (arith, e .0, sound .entry-below (number - 1) i chain-place (e .1), tasks-length sound)
+
+  pub chain-known : Chain (tasksOf s) (firstOf (chainOf s number)) (restOf (chainOf s number))
+  chain-known = entries-chain (tasksOf s) (chainOf s number) (omega (arith, tasks-length sound, sound .count-least))
       entry-listed
       (λ i l q.
       let a = entry-at i (omega arith) in
       let b = entry-at (suc i) l in
-      omega (arith, sound .entries-differ i (suc i) (a .1) (b .1) (sym (a .0) ∙ q ∙ b .0)))
-
--- A late task
-
-pub lateness-fine : (x : Slot) → lateness x ≡ fine → x ≡ idle
-lateness-fine idle e = refl
-lateness-fine (busy i) e = refused-given e
-
-pub lateness-numbered : (x : Slot) → Numbered 15 15 (lateness x)
-lateness-numbered idle = given-numbered tt
-lateness-numbered (busy i) = refused-numbered 15 (i ∷ []) (omega arith) (omega arith)
+      omega (arith, sound .entries-differ (number - 1) chain-place i (suc i) (a .1) (b .1) (sym (a .0) ∙ q ∙ b .0)))

@@ -5,21 +5,23 @@ use Prim.Native.Nat.{ℕ}
 use Rattle.answers.specs.declared.Refusal.{Refusal}
 use Rattle.answers.specs.declared.Verdict.{Verdict}
 use Rattle.answers.specs.declared.Verdict.the-variants.{Fine, No}
-use Rattle.answers.specs.Answers.{given, also, told}
+use Rattle.answers.specs.Answers.{Answer, given, also, told}
 use Rattle.answers.specs.AnswerLaws.{refused-given, refusal-unique, told-unique}
 use Rattle.sheet.specs.declared.Sheet.{Sheet}
 use Rattle.sheet.specs.declared.Reading.{Reading}
 use Rattle.sheet.specs.declared.Written.{Written}
 use Rattle.sheet.specs.declared.Written.the-variants.{Bytes, No as NoBytes}
-use Rattle.sheet.specs.Calls.{bufferAfter}
-use Rattle.sheet.specs.Answers.{toldBytes}
-use Rattle.sheet.specs.Promises.{JudgePromise, ReadPromise, WritePromise, WrittenRefusalPromise}
+use Rattle.sheet.specs.Calls.{readOf, bufferAfter}
+use Rattle.sheet.specs.Conversions.{toSecond, toFirst}
+use Rattle.sheet.specs.Answers.{toldSheet, toldBytes, sheetIn}
+use Rattle.sheet.specs.Promises.{JudgePromise, ReadPromise, ToSecondPromise, ToFirstPromise, WritePromise, WrittenRefusalPromise, NumberedPromise}
 
 pub judge-unique : (s : Sheet) (v w : Verdict) → JudgePromise s v → JudgePromise s w → v ≡ w
 judge-unique s v w h g = told-unique v w (h ∙ sym g)
 
-pub read-unique : (bytes : List ℕ) (x y : Reading) → ReadPromise bytes x → ReadPromise bytes y → x ≡ y
-read-unique bytes x y h g =
+-- a sheet, or a blank one beside a refusal, is one
+sheet-unique : (a : Answer Sheet) (x y : Reading) → (toldSheet x ≡ a) × (x .sheet ≡ sheetIn a) → (toldSheet y ≡ a) × (y .sheet ≡ sheetIn a) → x ≡ y
+sheet-unique a x y h g =
     ap₂ (λ v s. record { verdict = v; sheet = s }) (verdict (x .verdict) (y .verdict) (h .0 ∙ sym (g .0))) (h .1 ∙ sym (g .1))
   where
     verdict : (v w : Verdict) → also (told v) (given (x .sheet)) ≡ also (told w) (given (y .sheet)) → v ≡ w
@@ -27,6 +29,18 @@ read-unique bytes x y h g =
     verdict Fine (No q) e = refused-given (sym e)
     verdict (No r) Fine e = refused-given e
     verdict (No r) (No q) e = ap No (refusal-unique r q e)
+
+pub read-unique : (bytes : List ℕ) (x y : Reading) → ReadPromise bytes x → ReadPromise bytes y → x ≡ y
+read-unique bytes x y h g = sheet-unique (readOf bytes) x y h g
+
+pub to-second-unique : (s : Sheet) (x y : Reading) → ToSecondPromise s x → ToSecondPromise s y → x ≡ y
+to-second-unique s x y h g = sheet-unique (toSecond s) x y h g
+
+pub to-first-unique : (s : Sheet) (x y : Reading) → ToFirstPromise s x → ToFirstPromise s y → x ≡ y
+to-first-unique s x y h g = sheet-unique (toFirst s) x y h g
+
+pub numbered-unique : (s : Sheet) (number : ℕ) (v w : Verdict) → NumberedPromise s number v → NumberedPromise s number w → v ≡ w
+numbered-unique s number v w h g = told-unique v w (h ∙ sym g)
 
 toldBytes-unique : (v w : Written) → toldBytes v ≡ toldBytes w → v ≡ w
 toldBytes-unique (Bytes m) (Bytes n) e = let q : m ≡ n = cc in ap Bytes q

@@ -1,28 +1,38 @@
-// The timing sheet: read from bytes, judged in memory, written to bytes. Its format is one list of fields, each with a width, a
-// place, a value and a judgement (specs/Fields.antt); what the calls answer is said over that list (specs/Calls.antt), and that
-// writing and reading are inverse is proved of it (specs/RoundTrip.antt).
+// The timing sheet of both editions: read from bytes, judged in memory, written to bytes, and converted. Its format is one list of
+// fields, each with a width, a value and a judgement (specs/Fields.antt); what the calls answer is said over that list
+// (specs/Calls.antt), and that writing and reading are inverse is proved of it (specs/RoundTrip.antt).
 use answers::Refusal;
 use answers::Verdict;
 use theory::Task;
 ghost use mathlib.Core.Path.{_≡_};
+ghost use mathlib.Core.Bool.{true, cond};
 ghost use Prim.Native.Nat.{_+_, _-_, _*_, _<_, _≤_, min};
-ghost use lib.ListN.{getD};
+ghost use lib.Dec.{eqb};
 ghost use lib.Seq.{sets};
-ghost use Rattle.bits.specs.Bits.{unpack};
+ghost use Rattle.bits.specs.Bits.{unpack, number};
 ghost use Rattle.theory.specs.Model.Schedule.{none};
-ghost use Rattle.answers.specs.Answers.{when, withValue, first, told};
-ghost use Rattle.sheet.specs.Fields.{width, index, value, outside, among, judged};
-ghost use Rattle.sheet.specs.Order.{opening, next, nth, taskBits, taskAt, entryAt};
-ghost use Rattle.sheet.specs.Calls.{places, fieldsOf, judgedIn, packed, endOf, sheetOf, firstOne, tailOf};
+ghost use Rattle.answers.specs.Answers.{when, told};
+ghost use Rattle.sheet.specs.Fields.{old, new, kindOf, tasks, chains, entries, fields, width, value, outside, among, judged, withOffset, inOrder};
+ghost use Rattle.sheet.specs.Calls.{places, unused, packed, endOf, taskBits, chainFrom, sheetOf, spelt, judgedIn, firstOne, tailOf};
+ghost use Rattle.sheet.specs.Conversions.{limited, stays};
+ghost use Rattle.sheet.specs.Order.{sheetSpelt, taskAt, chainSpelt, begins, chainBits, opening, chainOpening, suiteOpening, taskOpening, entryOpening, next, taskIn, chainIn, nth, entryJudged};
 ghost use Rattle.sheet.specs.Answers.{blank};
-ghost use Rattle.sheet.specs.Promises.{JudgePromise, ReadPromise, WritePromise, WrittenRefusalPromise};
-ghost use Rattle.sheet.specs.declared.Field.the-variants.{Rank, Entry};
+ghost use Rattle.sheet.specs.Promises.{JudgePromise, ReadPromise, WritePromise, WrittenRefusalPromise, ToSecondPromise, ToFirstPromise, NumberedPromise};
+ghost use Rattle.sheet.specs.declared.Field.the-variants.{Mark, Rank, Limit, Length};
 
+pub struct Chain {
+    pub entries: [u8; 16],
+    pub length: u8,
+    pub limit: u32,
+}
+
+// `count` tasks and a suite of so many chains. An old sheet is edition 1: it uses chain one, and neither `suite` nor a limit.
 pub struct Sheet {
     pub tasks: [Task; 16],
-    pub chain: [u8; 16],
+    pub chains: [Chain; 8],
+    pub edition: u8,
     pub count: u8,
-    pub length: u8,
+    pub suite: u8,
 }
 
 pub struct Reading {
@@ -35,17 +45,25 @@ pub enum Written {
     No(Refusal),
 }
 
-// A field of the sheet; those of a task and of the chain with their index.
+// A field of the sheet; those of a task and of a chain with their index.
 enum Field {
+    Mark,
+    Edition,
     Count,
-    Period(u16),
-    Budget(u16),
-    Rank(u16),
-    Length,
-    Entry(u16),
+    Period(u8),
+    Budget(u8),
+    Rank(u8),
+    Chains,
+    Limit(u8),
+    Length(u8),
+    Entry(u8, u8),
 }
 
-// Document 01's widths, and what follows from them.
+// The documents' widths, and what follows from them.
+const MARK_BITS: u32 = 5;
+
+const EDITION_BITS: u32 = 4;
+
 const COUNT_BITS: u32 = 5;
 
 const PERIOD_BITS: u32 = 17;
@@ -54,11 +72,22 @@ const BUDGET_BITS: u32 = 17;
 
 const RANK_BITS: u32 = 8;
 
+const CHAINS_BITS: u32 = 4;
+
+const LIMIT_BITS: u32 = 22;
+
 const LENGTH_BITS: u32 = 5;
 
 const ENTRY_BITS: u32 = 4;
 
+const MARKED_BITS: u32 = MARK_BITS + EDITION_BITS;
+
+const HEAD_BITS: u32 = MARKED_BITS + COUNT_BITS;
+
 const TASK_BITS: u32 = PERIOD_BITS + BUDGET_BITS + RANK_BITS;
+
+// The limit of an old sheet's chain.
+const OLD_LIMIT: u32 = 1000;
 
 fn wide(x: u8) -> u32
     ensures { λ r. ⌜ (r ≡ x) × (r < 256) ⌝ }
@@ -66,40 +95,44 @@ fn wide(x: u8) -> u32
     x as u32
 }
 
-fn short(x: u8) -> u16
-    ensures { λ r. ⌜ (r ≡ x) × (r < 256) ⌝ }
-{
-    x as u16
-}
-
 fn width_of(f: Field) -> u32
     ensures { λ r. ⌜ r ≡ width f ⌝ }
 {
     match f {
+        Field::Mark => MARK_BITS,
+        Field::Edition => EDITION_BITS,
         Field::Count => COUNT_BITS,
         Field::Period(_) => PERIOD_BITS,
         Field::Budget(_) => BUDGET_BITS,
         Field::Rank(_) => RANK_BITS,
-        Field::Length => LENGTH_BITS,
-        Field::Entry(_) => ENTRY_BITS,
+        Field::Chains => CHAINS_BITS,
+        Field::Limit(_) => LIMIT_BITS,
+        Field::Length(_) => LENGTH_BITS,
+        Field::Entry(_, _) => ENTRY_BITS,
     }
 }
 
-fn task_of(s: Sheet, i: u16) -> Task
-    ensures { λ r. ⌜ r ≡ getD (s .tasks) i none ⌝ }
+fn length_of(s: Sheet, c: u8) -> u8
+    ensures { λ r. ⌜ r ≡ value s (Length c) ⌝ }
 {
-    if i < 16 {
-        let k = i as usize;
-        return s.tasks[k];
+    if c < 8 {
+        let k = c as usize;
+        return s.chains[k].length;
     }
-    Task {
-        period: 0,
-        budget: 0,
-        rank: 0,
-    }
+    0
 }
 
-fn nth_of(values: &[u8], i: u16) -> u8
+fn limit_of(s: Sheet, c: u8) -> u32
+    ensures { λ r. ⌜ r ≡ value s (Limit c) ⌝ }
+{
+    if c < 8 {
+        let k = c as usize;
+        return s.chains[k].limit;
+    }
+    0
+}
+
+fn nth_of(values: &[u8], i: u8) -> u8
     ensures { λ r. ⌜ r ≡ nth (now (values .entry)) i ⌝ }
 {
     let k = i as usize;
@@ -109,43 +142,167 @@ fn nth_of(values: &[u8], i: u16) -> u8
     0
 }
 
+fn entry_of(chain: Chain, i: u8) -> u8
+    ensures { λ r. ⌜ r ≡ nth (chain .entries) i ⌝ }
+{
+    let own = chain.entries;
+    nth_of(&own, i)
+}
+
+fn mark_of(s: Sheet) -> u32
+    ensures { λ r. ⌜ r ≡ value s Mark ⌝ }
+{
+    if s.edition == 1 {
+        return 0;
+    }
+    31
+}
+
+// What stands in a field that has a place.
 fn value_of(s: Sheet, f: Field) -> u32
+    requires { ⌜ (taskIn f < 16) × (chainIn f < 8) ⌝ }
     ensures { λ r. ⌜ r ≡ value s f ⌝ }
 {
     match f {
+        Field::Mark => mark_of(s),
+        Field::Edition => wide(s.edition),
         Field::Count => wide(s.count),
-        Field::Period(i) => task_of(s, i).period,
-        Field::Budget(i) => task_of(s, i).budget,
-        Field::Rank(i) => wide(task_of(s, i).rank),
-        Field::Length => wide(s.length),
-        Field::Entry(i) => {
-            let chain = s.chain;
-            wide(nth_of(&chain, i))
+        Field::Period(i) => {
+            let k = i as usize;
+            s.tasks[k].period
+        }
+        Field::Budget(i) => {
+            let k = i as usize;
+            s.tasks[k].budget
+        }
+        Field::Rank(i) => {
+            let k = i as usize;
+            wide(s.tasks[k].rank)
+        }
+        Field::Chains => wide(s.suite),
+        Field::Limit(c) => limit_of(s, c),
+        Field::Length(c) => wide(length_of(s, c)),
+        Field::Entry(c, i) => {
+            let j = c as usize;
+            let chain = s.chains[j];
+            wide(entry_of(chain, i))
         }
     }
 }
 
-fn opening_of(n: u16, i: u16) -> Field
-    ensures { λ r. ⌜ r ≡ opening n i ⌝ }
+// The places that are taken of so many.
+fn taken(k: u8, room: u8) -> u8
+    ensures { λ r. ⌜ r ≡ min k room ⌝ }
 {
-    if i < n {
-        return Field::Period(i);
+    if k < room {
+        return k;
     }
-    Field::Length
+    room
 }
 
-// The field after a field, on a sheet of n tasks.
-fn next_of(n: u16, f: Field) -> Field
-    requires { ⌜ index f < 65535 ⌝ }
-    ensures { λ r. ⌜ r ≡ next n f ⌝ }
+// How many tasks, chains and entries have places.
+fn tasks_of(s: Sheet) -> u8
+    ensures { λ r. ⌜ r ≡ tasks (value s) ⌝ }
+{
+    taken(s.count, 16)
+}
+
+fn entries_in(s: Sheet, c: u8) -> u8
+    ensures { λ r. ⌜ r ≡ entries (value s) c ⌝ }
+{
+    taken(length_of(s, c), 16)
+}
+
+fn chains_of(s: Sheet) -> u8
+    ensures { λ r. ⌜ r ≡ chains (kindOf (value s)) (value s) ⌝ }
+{
+    if s.edition == 1 {
+        return 1;
+    }
+    taken(s.suite, 8)
+}
+
+fn opening_of(s: Sheet) -> Field
+    ensures { λ r. ⌜ r ≡ opening (kindOf (value s)) ⌝ }
+{
+    if s.edition == 1 {
+        return Field::Count;
+    }
+    Field::Mark
+}
+
+fn chain_opening(s: Sheet, c: u8) -> Field
+    ensures { λ r. ⌜ r ≡ chainOpening (kindOf (value s)) c ⌝ }
+{
+    if s.edition == 1 {
+        return Field::Length(c);
+    }
+    Field::Limit(c)
+}
+
+fn suite_opening(s: Sheet) -> Field
+    ensures { λ r. ⌜ r ≡ suiteOpening (kindOf (value s)) ⌝ }
+{
+    if s.edition == 1 {
+        return Field::Length(0);
+    }
+    Field::Chains
+}
+
+fn task_opening(s: Sheet, i: u8) -> Field
+    ensures { λ r. ⌜ r ≡ taskOpening (kindOf (value s)) (value s) i ⌝ }
+{
+    if i < tasks_of(s) {
+        return Field::Period(i);
+    }
+    suite_opening(s)
+}
+
+fn task_after(s: Sheet, i: u8) -> Field
+    ensures { λ r. ⌜ r ≡ taskOpening (kindOf (value s)) (value s) (i + 1) ⌝ }
+{
+    if i < 16 {
+        return task_opening(s, i + 1);
+    }
+    suite_opening(s)
+}
+
+fn entry_opening(s: Sheet, c: u8, i: u8) -> Field
+    requires { ⌜ c < 255 ⌝ }
+    ensures { λ r. ⌜ r ≡ entryOpening (kindOf (value s)) (value s) c i ⌝ }
+{
+    if i < entries_in(s, c) {
+        return Field::Entry(c, i);
+    }
+    chain_opening(s, c + 1)
+}
+
+fn entry_after(s: Sheet, c: u8, i: u8) -> Field
+    requires { ⌜ c < 255 ⌝ }
+    ensures { λ r. ⌜ r ≡ entryOpening (kindOf (value s)) (value s) c (i + 1) ⌝ }
+{
+    if i < 16 {
+        return entry_opening(s, c, i + 1);
+    }
+    chain_opening(s, c + 1)
+}
+
+// The field after a field.
+fn next_of(s: Sheet, f: Field) -> Field
+    requires { ⌜ chainIn f < 255 ⌝ }
+    ensures { λ r. ⌜ r ≡ next (kindOf (value s)) (value s) f ⌝ }
 {
     match f {
-        Field::Count => opening_of(n, 0),
+        Field::Mark => Field::Edition,
+        Field::Edition => Field::Count,
+        Field::Count => task_opening(s, 0),
         Field::Period(i) => Field::Budget(i),
         Field::Budget(i) => Field::Rank(i),
-        Field::Rank(i) => opening_of(n, i + 1),
-        Field::Length => Field::Entry(0),
-        Field::Entry(i) => Field::Entry(i + 1),
+        Field::Rank(i) => task_after(s, i),
+        Field::Chains => Field::Limit(0),
+        Field::Limit(c) => Field::Length(c),
+        Field::Length(c) => entry_opening(s, c, 0),
+        Field::Entry(c, i) => entry_after(s, c, i),
     }
 }
 
@@ -162,7 +319,7 @@ fn ranks_of(s: Sheet) -> [u8; 16]
 }
 
 // The refusal of an entry, or a rank, that repeats an earlier one.
-fn fresh(number: u8, values: &[u8], i: u16) -> Verdict
+fn fresh(number: u8, values: &[u8], i: u8) -> Verdict
     ensures { λ r. ⌜ told r ≡ when (among (nth (now (values .entry))) i (nth (now (values .entry)) i)) number ⌝ }
 {
     let v = nth_of(values, i);
@@ -189,59 +346,116 @@ fn ranged(number: u8, low: u32, high: u32, v: u32) -> Verdict
     Verdict::Fine
 }
 
-fn judge_entry(s: Sheet, i: u16) -> Verdict
-    ensures { λ r. ⌜ told r ≡ judged (value s) (Entry i) ⌝ }
+// The refusal of an entry that is none of so many tasks, or that repeats an earlier one of its chain.
+fn judge_entry(count: u8, chain: Chain, i: u8) -> Verdict
+    ensures { λ r. ⌜ told r ≡ entryJudged count (nth (chain .entries)) i ⌝ }
 {
-    let chain = s.chain;
-    if s.count <= nth_of(&chain, i) {
+    if count <= entry_of(chain, i) {
         return Verdict::No(Refusal::Number(7));
     }
-    fresh(8, &chain, i)
+    let own = chain.entries;
+    fresh(8, &own, i)
 }
 
+// A field that has a place.
 fn judge_field(s: Sheet, f: Field) -> Verdict
-    ensures { λ r. ⌜ told r ≡ judged (value s) f ⌝ }
+    requires { ⌜ (taskIn f < 16) × (chainIn f < 8) ⌝ }
+    ensures { λ r. ⌜ told r ≡ judged (kindOf (value s)) (value s) f ⌝ }
 {
     match f {
+        Field::Mark => Verdict::Fine,
+        Field::Edition => ranged(16, 2, 2, wide(s.edition)),
         Field::Count => ranged(2, 1, 16, wide(s.count)),
-        Field::Period(i) => ranged(3, 1, 100000, task_of(s, i).period),
+        Field::Period(i) => {
+            let k = i as usize;
+            ranged(3, 1, 100000, s.tasks[k].period)
+        }
         Field::Budget(i) => {
-            let t = task_of(s, i);
+            let k = i as usize;
+            let t = s.tasks[k];
             ranged(4, 1, t.period, t.budget)
         }
         Field::Rank(i) => {
             let ranks = ranks_of(s);
             fresh(5, &ranks, i)
         }
-        Field::Length => ranged(6, 1, wide(s.count), wide(s.length)),
-        Field::Entry(i) => judge_entry(s, i),
+        Field::Chains => ranged(17, 1, 8, wide(s.suite)),
+        Field::Limit(c) => ranged(13, 0, 4000000, limit_of(s, c)),
+        Field::Length(c) => ranged(6, 1, wide(s.count), wide(length_of(s, c))),
+        Field::Entry(c, i) => {
+            let j = c as usize;
+            let own = s.chains[j];
+            judge_entry(s.count, own, i)
+        }
     }
+}
+
+// A refusal at bit `at`: a number up to 9 comes with it.
+fn refused_at(number: u8, at: u32) -> Verdict
+    ensures { λ r. ⌜ told r ≡ withOffset at (when true number) ⌝ }
+{
+    if number <= 9 {
+        return Verdict::No(Refusal::With(number, at));
+    }
+    Verdict::No(Refusal::Number(number))
 }
 
 // What was found of a field, a refusal with the bit at which the field begins.
 fn with_offset(v: Verdict, at: u32) -> Verdict
-    ensures { λ r. ⌜ told r ≡ withValue at (told v) ⌝ }
+    ensures { λ r. ⌜ told r ≡ withOffset at (told v) ⌝ }
 {
     let Verdict::No(refusal) = v else {
         return Verdict::Fine;
     };
     match refusal {
-        Refusal::Number(number) => Verdict::No(Refusal::With(number, at)),
-        Refusal::With(number, _) => Verdict::No(Refusal::With(number, at)),
+        Refusal::Number(number) => refused_at(number, at),
+        Refusal::With(number, _) => refused_at(number, at),
     }
+}
+
+// Where the first chain begins.
+fn opening_end(s: Sheet) -> u32
+    ensures { λ r. ⌜ (r ≡ begins (kindOf (value s)) (value s)) × (r ≤ 690) ⌝ }
+{
+    if s.edition == 1 {
+        return COUNT_BITS + TASK_BITS * wide(tasks_of(s));
+    }
+    HEAD_BITS + TASK_BITS * wide(tasks_of(s)) + CHAINS_BITS
+}
+
+fn chain_bits(s: Sheet) -> u32
+    ensures { λ r. ⌜ r ≡ chainBits (kindOf (value s)) ⌝ }
+{
+    if s.edition == 1 {
+        return LENGTH_BITS;
+    }
+    LIMIT_BITS + LENGTH_BITS
+}
+
+// The bit after the last field.
+fn end_of(s: Sheet) -> u32
+    ensures { λ r. ⌜ (r ≡ endOf s) × (r ≤ 1424) ⌝ }
+{
+    let many = chains_of(s);
+    let mut at = opening_end(s);
+    let mut c = 0u8;
+    while c < many {
+        at += chain_bits(s) + ENTRY_BITS * wide(entries_in(s, c));
+        c += 1;
+    }
+    at
 }
 
 // The fields in order, in so many bytes.
 fn judge_fields(s: Sheet, len: usize) -> Verdict
-    ensures { λ r. ⌜ told r ≡ first (judgedIn (len * 8) s) (fieldsOf s) ⌝ }
+    ensures { λ r. ⌜ told r ≡ inOrder (judgedIn (len * 8) (value s)) 0 (fields (value s)) ⌝ }
 {
-    let n = short(s.count);
-    let mut f = Field::Count;
+    let end = end_of(s);
+    let mut f = opening_of(s);
     let mut at = 0u32;
-    let mut left = 2 + 3 * n + short(s.length);
-    while 0 < left {
-        let end = at + width_of(f);
-        if len < ((end + 7) / 8) as usize {
+    while at < end {
+        let next = at + width_of(f);
+        if len < ((next + 7) / 8) as usize {
             return Verdict::No(Refusal::With(1, at));
         }
         let found = judge_field(s, f);
@@ -249,23 +463,37 @@ fn judge_fields(s: Sheet, len: usize) -> Verdict
         let Verdict::Fine = v else {
             return v;
         };
-        f = next_of(n, f);
-        at = end;
-        left -= 1;
+        f = next_of(s, f);
+        at = next;
     }
     Verdict::Fine
 }
 
-// A sheet in memory, judged for 2 to 8 in the order of its fields.
+// A sheet in memory, judged in the order of its fields.
 pub fn judge(s: Sheet) -> Verdict
     ensures { λ r. ⌜ JudgePromise s r ⌝ }
 {
-    judge_fields(s, 2000)
+    judge_fields(s, 178)
 }
 
-// What the bytes hold in the fields of a task, the first of them at bit `at`.
+// The fields of a sheet in order, from the first bit on.
+fn put_fields(out: &mut [u8], s: Sheet)
+    ensures { λ r. ⌜ unpack (now (out .exit)) ≡ sets (unpack (now (out .entry))) 0 (packed s) ⌝ }
+{
+    let end = end_of(s);
+    let mut f = opening_of(s);
+    let mut at = 0u32;
+    while at < end {
+        let width = width_of(f);
+        bits::put(&mut *out, at, width, value_of(s, f));
+        f = next_of(s, f);
+        at += width;
+    }
+}
+
+// What the bytes hold in the fields of a task, from bit `at` on.
 fn task_at(bytes: &[u8], at: u32) -> Task
-    requires { ⌜ at ≤ 60000 ⌝ }
+    requires { ⌜ at ≤ 100000 ⌝ }
     ensures { λ r. ⌜ r ≡ taskAt (unpack (now (bytes .entry))) at ⌝ }
 {
     let period = bits::number(bytes, at, PERIOD_BITS);
@@ -278,20 +506,9 @@ fn task_at(bytes: &[u8], at: u32) -> Task
     }
 }
 
-// The places that are taken of sixteen.
-fn taken(k: u16) -> u16
-    ensures { λ r. ⌜ r ≡ min k 16 ⌝ }
-{
-    if k < 16 {
-        return k;
-    }
-    16
-}
-
-// So many tasks, one after the other from bit `at` on.
-fn tasks_at(bytes: &[u8], at: u32, n: u16) -> [Task; 16]
-    requires { ⌜ at ≤ 50000 ⌝ }
-    ensures { λ r. ⌜ r ≡ places none n (λ i. taskAt (unpack (now (bytes .entry))) (at + taskBits * i)) ⌝ }
+fn tasks_at(bytes: &[u8], at: u32, n: u8) -> [Task; 16]
+    requires { ⌜ at ≤ 1000 ⌝ }
+    ensures { λ r. ⌜ r ≡ places 16 none n (λ i. taskAt (unpack (now (bytes .entry))) (at + taskBits * i)) ⌝ }
 {
     let blank = Task {
         period: 0,
@@ -299,9 +516,9 @@ fn tasks_at(bytes: &[u8], at: u32, n: u16) -> [Task; 16]
         rank: 0,
     };
     let mut tasks = [blank; 16];
-    let end = taken(n);
+    let end = taken(n, 16);
     let mut begin = at;
-    let mut i = 0u16;
+    let mut i = 0u8;
     while i < end {
         let k = i as usize;
         tasks[k] = task_at(bytes, begin);
@@ -311,39 +528,114 @@ fn tasks_at(bytes: &[u8], at: u32, n: u16) -> [Task; 16]
     tasks
 }
 
-// So many entries of a chain.
-fn chain_at(bytes: &[u8], at: u32, m: u16) -> [u8; 16]
-    requires { ⌜ at ≤ 50000 ⌝ }
-    ensures { λ r. ⌜ r ≡ places 0 m (λ i. entryAt (unpack (now (bytes .entry))) (at + width (Entry i) * i)) ⌝ }
+fn entries_at(bytes: &[u8], at: u32, m: u8) -> [u8; 16]
+    requires { ⌜ at ≤ 100000 ⌝ }
+    ensures { λ r. ⌜ r ≡ places 16 0 m (λ i. number (unpack (now (bytes .entry))) (at + 4 * i) 4) ⌝ }
 {
-    let mut chain = [0u8; 16];
-    let end = taken(m);
+    let mut entries = [0u8; 16];
+    let end = taken(m, 16);
     let mut begin = at;
-    let mut i = 0u16;
+    let mut i = 0u8;
     while i < end {
         let k = i as usize;
-        chain[k] = bits::number(bytes, begin, ENTRY_BITS) as u8;
+        entries[k] = bits::number(bytes, begin, ENTRY_BITS) as u8;
         begin += ENTRY_BITS;
         i += 1;
     }
-    chain
+    entries
+}
+
+// A chain whose limit takes so many bits.
+fn chain_at(bytes: &[u8], width: u32, at: u32) -> Chain
+    requires { ⌜ (width ≤ 22) × (at ≤ 90000) ⌝ }
+    ensures { λ r. ⌜ r ≡ chainSpelt (unpack (now (bytes .entry))) width at ⌝ }
+{
+    let limit = bits::number(bytes, at, width);
+    let length = bits::number(bytes, at + width, LENGTH_BITS) as u8;
+    let entries = entries_at(bytes, at + width + LENGTH_BITS, length);
+    Chain {
+        entries,
+        length,
+        limit,
+    }
+}
+
+fn chains_at(bytes: &[u8], width: u32, at: u32, k: u8) -> [Chain; 8]
+    requires { ⌜ (width ≤ 22) × (at ≤ 5000) ⌝ }
+    ensures { λ r. ⌜ r ≡ places 8 unused k (λ c. chainSpelt (unpack (now (bytes .entry))) width (chainFrom (unpack (now (bytes .entry))) width at c)) ⌝ }
+{
+    let blank = Chain {
+        entries: [0u8; 16],
+        length: 0,
+        limit: 0,
+    };
+    let mut chains = [blank; 8];
+    let end = taken(k, 8);
+    let mut begin = at;
+    let mut c = 0u8;
+    while c < end {
+        let j = c as usize;
+        let chain = chain_at(bytes, width, begin);
+        chains[j] = chain;
+        begin += width + LENGTH_BITS + ENTRY_BITS * wide(taken(chain.length, 16));
+        c += 1;
+    }
+    chains
+}
+
+// The edition behind a mark; a 1 is none.
+fn edition_at(bytes: &[u8]) -> u8
+    ensures { λ r. ⌜ r ≡ cond (eqb (number (unpack (now (bytes .entry))) 5 4) 1) 0 (number (unpack (now (bytes .entry))) 5 4) ⌝ }
+{
+    let edition = bits::number(bytes, MARK_BITS, EDITION_BITS);
+    if edition == 1 {
+        return 0;
+    }
+    edition as u8
+}
+
+fn spell_new(bytes: &[u8]) -> Sheet
+    ensures { λ r. ⌜ r ≡ sheetSpelt (unpack (now (bytes .entry))) new ⌝ }
+{
+    let edition = edition_at(bytes);
+    let count = bits::number(bytes, MARKED_BITS, COUNT_BITS) as u8;
+    let tasks = tasks_at(bytes, HEAD_BITS, count);
+    let at = HEAD_BITS + TASK_BITS * wide(taken(count, 16));
+    let suite = bits::number(bytes, at, CHAINS_BITS) as u8;
+    let chains = chains_at(bytes, LIMIT_BITS, at + CHAINS_BITS, suite);
+    Sheet {
+        tasks,
+        chains,
+        edition,
+        count,
+        suite,
+    }
+}
+
+fn spell_old(bytes: &[u8]) -> Sheet
+    ensures { λ r. ⌜ r ≡ sheetSpelt (unpack (now (bytes .entry))) old ⌝ }
+{
+    let count = bits::number(bytes, 0, COUNT_BITS) as u8;
+    let tasks = tasks_at(bytes, COUNT_BITS, count);
+    let at = COUNT_BITS + TASK_BITS * wide(taken(count, 16));
+    let chains = chains_at(bytes, 0, at, 1);
+    Sheet {
+        tasks,
+        chains,
+        edition: 1,
+        count,
+        suite: 0,
+    }
 }
 
 // The sheet that the bytes spell, taken for granted.
 fn spell(bytes: &[u8]) -> Sheet
-    ensures { λ r. ⌜ r ≡ sheetOf (unpack (now (bytes .entry))) ⌝ }
+    ensures { λ r. ⌜ r ≡ sheetOf (spelt (unpack (now (bytes .entry)))) ⌝ }
 {
-    let n = bits::number(bytes, 0, COUNT_BITS) as u8;
-    let tasks = tasks_at(bytes, COUNT_BITS, short(n));
-    let at = COUNT_BITS + TASK_BITS * wide(n);
-    let m = bits::number(bytes, at, LENGTH_BITS) as u8;
-    let chain = chain_at(bytes, at + LENGTH_BITS, short(m));
-    Sheet {
-        tasks,
-        chain,
-        count: n,
-        length: m,
+    if bits::number(bytes, 0, MARK_BITS) == 31 {
+        return spell_new(bytes);
     }
+    spell_old(bytes)
 }
 
 // The first bit that is 1 from a bit on, or the end if none before it is.
@@ -378,13 +670,6 @@ fn judge_tail(bytes: &[u8], end: u32) -> Verdict
     Verdict::Fine
 }
 
-// The bit after the last field.
-fn end_of(s: Sheet) -> u32
-    ensures { λ r. ⌜ (r ≡ endOf s) × (r ≤ 20000) ⌝ }
-{
-    COUNT_BITS + TASK_BITS * wide(s.count) + LENGTH_BITS + ENTRY_BITS * wide(s.length)
-}
-
 fn refused(verdict: Verdict) -> Reading
     ensures { λ r. ⌜ (r .verdict ≡ verdict) × (r .sheet ≡ blank) ⌝ }
 {
@@ -393,11 +678,17 @@ fn refused(verdict: Verdict) -> Reading
         budget: 0,
         rank: 0,
     };
+    let unused = Chain {
+        entries: [0u8; 16],
+        length: 0,
+        limit: 0,
+    };
     let sheet = Sheet {
         tasks: [none; 16],
-        chain: [0u8; 16],
+        chains: [unused; 8],
+        edition: 0,
         count: 0,
-        length: 0,
+        suite: 0,
     };
     Reading { verdict, sheet }
 }
@@ -418,23 +709,6 @@ pub fn read(bytes: &[u8]) -> Reading
     Reading {
         verdict: tail,
         sheet,
-    }
-}
-
-// The fields of a sheet in order, from the first bit on.
-fn put_fields(out: &mut [u8], s: Sheet)
-    ensures { λ r. ⌜ unpack (now (out .exit)) ≡ sets (unpack (now (out .entry))) 0 (packed s) ⌝ }
-{
-    let n = short(s.count);
-    let mut f = Field::Count;
-    let mut at = 0u32;
-    let mut left = 2 + 3 * n + short(s.length);
-    while 0 < left {
-        let width = width_of(f);
-        bits::put(&mut *out, at, width, value_of(s, f));
-        at += width;
-        f = next_of(n, f);
-        left -= 1;
     }
 }
 
@@ -464,4 +738,102 @@ pub fn written_refusal(w: Written) -> Refusal
         return Refusal::Number(0);
     };
     r
+}
+
+// Chain one under this limit, the others as they are.
+fn under(s: Sheet, limit: u32) -> [Chain; 8]
+    ensures { λ r. ⌜ r ≡ limited limit s ⌝ }
+{
+    let c = s.chains[0];
+    let entries = c.entries;
+    let one = Chain {
+        entries,
+        length: c.length,
+        limit,
+    };
+    let mut chains = s.chains;
+    chains[0] = one;
+    chains
+}
+
+// The sheet in the second edition: an old one's chain is its only one, under 1,000.
+pub fn to_second(s: Sheet) -> Reading
+    ensures { λ r. ⌜ ToSecondPromise s r ⌝ }
+{
+    let v = judge(s);
+    let Verdict::Fine = v else {
+        return refused(v);
+    };
+    if s.edition != 1 {
+        return Reading {
+            verdict: v,
+            sheet: s,
+        };
+    }
+    let tasks = s.tasks;
+    let chains = under(s, OLD_LIMIT);
+    let sheet = Sheet {
+        tasks,
+        chains,
+        edition: 2,
+        count: s.count,
+        suite: 1,
+    };
+    Reading { verdict: v, sheet }
+}
+
+// 18 for a sheet that an old one cannot hold.
+fn goes_back(s: Sheet) -> Verdict
+    ensures { λ r. ⌜ told r ≡ when (stays s) 18 ⌝ }
+{
+    if s.suite != 1 {
+        return Verdict::No(Refusal::Number(18));
+    }
+    if limit_of(s, 0) != OLD_LIMIT {
+        return Verdict::No(Refusal::Number(18));
+    }
+    Verdict::Fine
+}
+
+// The sheet as an old one, if it has one chain under 1,000.
+pub fn to_first(s: Sheet) -> Reading
+    ensures { λ r. ⌜ ToFirstPromise s r ⌝ }
+{
+    let v = judge(s);
+    let Verdict::Fine = v else {
+        return refused(v);
+    };
+    if s.edition == 1 {
+        return Reading {
+            verdict: v,
+            sheet: s,
+        };
+    }
+    let back = goes_back(s);
+    let Verdict::Fine = back else {
+        return refused(back);
+    };
+    let tasks = s.tasks;
+    let chains = under(s, 0);
+    let sheet = Sheet {
+        tasks,
+        chains,
+        edition: 1,
+        count: s.count,
+        suite: 0,
+    };
+    Reading {
+        verdict: back,
+        sheet,
+    }
+}
+
+// 17 for a chain number that the sheet lacks; an old sheet has chain 1 alone.
+pub fn numbered(s: Sheet, number: u8) -> Verdict
+    ensures { λ r. ⌜ NumberedPromise s number r ⌝ }
+{
+    if s.edition == 1 {
+        return ranged(17, 1, 1, wide(number));
+    }
+    ranged(17, 1, wide(s.suite), wide(number))
 }

@@ -4,7 +4,7 @@
 use model::probe::{Call, Handed, Lent, Request};
 use model::recurrence::climb;
 use model::schedule::hyperperiod;
-use model::sheet::{encoded, memory, Memory, Task};
+use model::sheet::{chain, memory, suite, unjudged, Memory, Task};
 use model::vectors::{falling, LONGEST_CLIMB, LONGEST_LATE_CLIMB};
 use std::path::PathBuf;
 
@@ -14,27 +14,32 @@ struct Sheets {
 
 impl Sheets {
     fn add(&self, group: &str, name: &str, tasks: &[Task], chain: &[u8]) {
+        self.add_sheet(group, name, &memory(tasks, chain));
+    }
+
+    fn add_sheet(&self, group: &str, name: &str, s: &Memory) {
+        let tasks = s.tasks();
         let h = hyperperiod(tasks).expect("H is within its limit");
         let jobs: u32 = tasks.iter().map(|t| h / t.period).sum();
-        let sheet = encoded(tasks, chain);
+        let sheet = unjudged(s);
         let table = request(Call::Responses, &sheet, jobs);
         self.write(name, ".read", &of_no_call(&table));
         self.write(name, ".table", &table);
         self.write(name, ".figures", &request(Call::Figures, &sheet, jobs));
         self.write(name, "", &sheet);
-        println!("{group} {name} {} {h} {jobs} {}", tasks.len(), chain.len());
+        println!("{group} {name} {} {h} {jobs} {}", tasks.len(), chain_lengths(s));
     }
 
     /// A sheet whose hyperperiod may be out of reach: only the bound without a table is asked for.
     fn add_climb(&self, name: &str, s: &Memory) {
-        let (tasks, chain) = (&s.tasks[..s.count as usize], &s.chain[..s.length as usize]);
+        let tasks = s.tasks();
         let steps: usize = (0..tasks.len()).map(|i| climb(tasks, i).len()).sum();
-        let sheet = encoded(tasks, chain);
+        let sheet = unjudged(s);
         let quick = request(Call::QuickBound, &sheet, 0);
         self.write(name, ".read", &of_no_call(&quick));
         self.write(name, ".quick", &quick);
         self.write(name, "", &sheet);
-        println!("climb {name} {} {steps} {}", tasks.len(), chain.len());
+        println!("climb {name} {} {steps} {}", tasks.len(), chain_lengths(s));
     }
 
     fn write(&self, name: &str, part: &str, bytes: &[u8]) {
@@ -42,10 +47,18 @@ impl Sheets {
     }
 }
 
-/// A call on a table of zeros with as many entries as it needs.
+/// The length of an old sheet's chain, or how many chains of which length.
+fn chain_lengths(s: &Memory) -> String {
+    match s.edition {
+        1 => s.chain(1).len().to_string(),
+        _ => format!("{}x{}", s.suite, s.chain(1).len()),
+    }
+}
+
+/// A call on the first chain, with a table of zeros that has as many entries as it needs.
 fn request(call: Call, sheet: &[u8], jobs: u32) -> Vec<u8> {
     let lent = Lent::Table { room: jobs as usize, words: vec![] };
-    Request { call, numbers: [0; 3], sheet: Handed::Bytes(sheet.to_vec()), lent }.bytes()
+    Request { call, numbers: [0, 1, 0], sheet: Handed::Bytes(sheet.to_vec()), lent }.bytes()
 }
 
 /// The same request with a number that is no call's, for which the probe reads the sheet and answers nothing.
@@ -108,6 +121,15 @@ fn main() {
     }
     for length in [1, 2, 4, 8, 16] {
         sheets.add("chain", &format!("chain-{length}"), &rate_monotonic(&full), &straight(length));
+    }
+    // Chains from slow tasks to fast ones, as a stamp, a display and a bell have them, then of all tasks.
+    for count in [1, 2, 4, 8] {
+        let parts: Vec<_> = (0..count).map(|c| chain(100_000, &[15 - c, 11 - c, 7 - c])).collect();
+        sheets.add_sheet("suite", &format!("suite-{count}"), &suite(&rate_monotonic(&full), &parts));
+    }
+    for count in [1, 8] {
+        let parts: Vec<_> = (0..count).map(|c| chain(4_000_000, &mixed.iter().map(|e| (e + c) % 16).collect::<Vec<_>>())).collect();
+        sheets.add_sheet("suite", &format!("suite-of-all-{count}"), &suite(&rate_monotonic(&full), &parts));
     }
     let short = [10, 16, 20, 25, 40, 50, 80, 100, 125, 200, 250, 400, 500, 625, 1_000, 1_250];
     for scale in [1, 10, 80] {

@@ -5,11 +5,11 @@
 //! The same seed repeats the same requests. The first difference is printed in words and ends the run with status 1.
 
 use model::experiment::{experiment, experiment_with_bounds, Claim, Followed};
-use model::generate::{odd_sheet, request, sheet};
+use model::generate::{odd_sheet, request, sheet, some_chain};
 use model::probe::{answer, readable, words, Answer, Call, Handed, Lent, Probe, Request, CALLS};
 use model::random::Random;
 use model::schedule::sizes;
-use model::sheet::{Memory, Task};
+use model::sheet::{judge, Memory, Task};
 use std::collections::BTreeSet;
 use std::process::exit;
 
@@ -63,11 +63,17 @@ impl Run {
 #[derive(Default)]
 struct Met {
     accepted: [u64; CALLS.len()],
-    refused: [[u64; 16]; CALLS.len()],
+    refused: [[u64; 19]; CALLS.len()],
     /// Each number that comes with a bit, and that bit.
     places: BTreeSet<(u8, u32)>,
     over: u64,
-    /// Of the sheets that were taken with a table: task count with chain length, and how many have the greatest H and J.
+    /// Of the sheets whose fields are fine, in bytes and in memory: edition and number of chains.
+    suites: BTreeSet<(bool, u8, u8)>,
+    /// Chain numbers that the sheet lacks: one more than the last, 0 and 255.
+    one_more: u64,
+    zeroth: u64,
+    last_number: u64,
+    /// Of the sheets that were taken with a table: task count with the length of the chain asked for, and how many have the greatest H and J.
     shapes: BTreeSet<(u8, u8)>,
     greatest_hyperperiod: u64,
     most_jobs: u64,
@@ -95,13 +101,27 @@ impl Met {
         if let (Call::QuickBound, Some(s)) = (q.call, q.sheet.memory()) {
             self.note_quick(&s, a);
         }
-        let taken = a.refusal.is_none() && q.call.refusals().contains(&14) && q.call.refusals().contains(&15);
-        if let (true, Some(s)) = (taken, q.sheet.memory()) {
-            self.shapes.insert((s.count, s.length));
-            let z = sizes(&s).expect("a sheet that is taken has sizes");
+        if let Some(s) = q.sheet.memory().filter(|s| q.call as u32 >= Call::Judge as u32 && judge(s).is_ok()) {
+            self.note_sheet(q, &s, a);
+        }
+    }
+
+    fn note_sheet(&mut self, q: &Request, s: &Memory, a: &Answer) {
+        self.suites.insert((matches!(q.sheet, Handed::Bytes(_)), s.edition, s.chain_count()));
+        let number = q.numbers[1] as u8;
+        if a.refusal == Some(17.into()) {
+            self.one_more += u64::from(number == s.chain_count() + 1);
+            self.zeroth += u64::from(number == 0);
+            self.last_number += u64::from(number == 255);
+        }
+        let numbers = q.call.refusals();
+        if a.refusal.is_none() && numbers.contains(&14) && numbers.contains(&15) {
+            let z = sizes(s).expect("a sheet that is taken has sizes");
             self.greatest_hyperperiod += u64::from(z.hyperperiod == 1_000_000);
             self.most_jobs += u64::from(z.jobs == 8_192);
-            let first = z.tasks[s.chain[0] as usize].period;
+            let chain = s.chain(number.max(1));
+            self.shapes.insert((s.count, chain.len() as u8));
+            let first = z.tasks[chain[0] as usize].period;
             self.least_first += u64::from(first == 1);
             self.greatest_first += u64::from(first == 100_000);
         }
@@ -129,10 +149,17 @@ impl Met {
             let refused: u64 = self.refused[at].iter().sum();
             println!("  {name:<16}{:>7} requests{accepted:>7} accepted{refused:>7} refused", accepted + refused);
         }
-        let numbers: Vec<String> = (1..=15).map(|n| format!("{n}: {}", self.with_number(n))).collect();
+        let numbers: Vec<String> = (1..=18).map(|n| format!("{n}: {}", self.with_number(n))).collect();
         println!("  refusals by number: {}", numbers.join(", "));
         let bits: Vec<String> = (1..=9).map(|n| format!("{n}: {}", self.bits_with(n))).collect();
         println!("  different bits by number: {}", bits.join(", "));
+        println!(
+            "  {} kinds of edition and number of chains; no such chain: number 0 {} times, one too many {}, 255 {}",
+            self.suites.len(),
+            self.zeroth,
+            self.one_more,
+            self.last_number
+        );
         println!(
             "  {} pairs of task count and chain length taken, {} times H 1,000,000, {} times J 8,192",
             self.shapes.len(),
@@ -160,7 +187,12 @@ impl Met {
         missing.extend(few.map(|n| format!("{n} at {PLACES} bits")));
         let shapes = (1..=16).flat_map(|n| (1..=n).map(move |m| (n, m))).filter(|shape| !self.shapes.contains(shape));
         missing.extend(shapes.map(|(n, m)| format!("{n} tasks with a chain of {m}")));
+        let suites = [false, true].into_iter().flat_map(|bytes| (1..=8).map(move |k| (bytes, 2, k)).chain([(bytes, 1, 1)]));
+        missing.extend(suites.filter(|kind| !self.suites.contains(kind)).map(|kind| format!("{kind:?}: in bytes, edition, chains")));
         let once = [
+            (self.zeroth, "chain number 0"),
+            (self.one_more, "a chain number one too great"),
+            (self.last_number, "chain number 255"),
             (self.over, "a multiple over its limit"),
             (self.greatest_hyperperiod, "H 1,000,000"),
             (self.most_jobs, "J 8,192"),
@@ -200,27 +232,27 @@ fn compare(probe: &mut Probe, run: &Run) -> Met {
     met
 }
 
-/// The words of the probe's answer on a sheet in memory, with a table that is large enough for any.
-fn ask(probe: &mut Probe, call: Call, s: &Memory) -> Vec<u32> {
+/// The words of the probe's answer on a chain of a sheet in memory, with a table that is large enough for any.
+fn ask(probe: &mut Probe, call: Call, s: &Memory, number: u8) -> Vec<u32> {
     let lent = match call {
         Call::QuickBound => Lent::Bytes(vec![]),
         _ => Lent::Table { room: 8_192, words: vec![] },
     };
-    let q = Request { call, numbers: [0; 3], sheet: Handed::Memory(*s), lent };
+    let q = Request { call, numbers: [0, number.into(), 0], sheet: Handed::Memory(*s), lent };
     words(&asked(probe, &q, || ()).0)
 }
 
-/// What the probe says of a sheet's chain, unless it refuses the sheet.
-fn claim(probe: &mut Probe, s: &Memory) -> Option<Claim> {
-    match ask(probe, Call::Figures, s)[..] {
+/// What the probe says of a chain, unless it refuses the sheet.
+fn claim(probe: &mut Probe, s: &Memory, number: u8) -> Option<Claim> {
+    match ask(probe, Call::Figures, s, number)[..] {
         [_, 0, 0, _, _, _, sampling, release, sampling_bound, worst, bound, ..] => Some(Claim { sampling, release, sampling_bound, worst, bound }),
         _ => None,
     }
 }
 
 /// With a table and without: both bounds and the response of each task, or 15 with its task; nothing where H or J is over its limit.
-fn agree(probe: &mut Probe, s: &Memory) -> bool {
-    let (full, quick) = (ask(probe, Call::Figures, s), ask(probe, Call::QuickBound, s));
+fn agree(probe: &mut Probe, s: &Memory, number: u8) -> bool {
+    let (full, quick) = (ask(probe, Call::Figures, s, number), ask(probe, Call::QuickBound, s, number));
     match (&full[1..3], &quick[1..3]) {
         ([0, 0], [0, 0]) => (full[8], full[10], &full[14..30]) == (quick[3], quick[4], &quick[5..]),
         ([10 | 11, 0], [0, 0] | [15, _]) => true,
@@ -248,17 +280,19 @@ fn try_claims(probe: &mut Probe, run: &Run) -> Tried {
             exit(1);
         };
         let s = sheet(&mut random);
-        if !agree(probe, &s) {
+        let chain = some_chain(&mut random, &s);
+        if !agree(probe, &s, chain) {
             fail(&s, "with a table and without the answers differ".into());
         }
-        if let Some(claim) = claim(probe, &s) {
-            let followed = experiment(&s, claim, &mut random).unwrap_or_else(|trouble| fail(&s, format!("{claim:?}: {trouble}")));
+        if let Some(claim) = claim(probe, &s, chain) {
+            let followed = experiment(&s, chain, claim, &mut random).unwrap_or_else(|trouble| fail(&s, format!("{claim:?}: {trouble}")));
             tried.accepted += 1;
             tried.followed.add(&followed);
         }
         let s = odd_sheet(&mut random);
-        if let (&[_, 0, 0, sampling_bound, bound, ..], true) = (&ask(probe, Call::QuickBound, &s)[..], s.tasks.iter().all(|t| t.period <= MOST_ODD)) {
-            let followed = experiment_with_bounds(&s, sampling_bound, bound, &mut random);
+        let chain = some_chain(&mut random, &s);
+        if let (&[_, 0, 0, sampling_bound, bound, ..], true) = (&ask(probe, Call::QuickBound, &s, chain)[..], s.tasks.iter().all(|t| t.period <= MOST_ODD)) {
+            let followed = experiment_with_bounds(&s, chain, sampling_bound, bound, &mut random);
             tried.bounds += 1;
             tried.under_bounds.add(&followed.unwrap_or_else(|trouble| fail(&s, format!("bounds {sampling_bound} and {bound}: {trouble}"))));
         }

@@ -1,8 +1,8 @@
-//! The sample sheets, document 01's, one for each refusal and some more, with the report and the quick bound of each; and what the programs
-//! report and bound are run on.
+//! The sample sheets of both editions, document 01's, one for each refusal and some more, with the report and the quick bound of each; and
+//! what the programs report, bound and convert are run on.
 
-use model::report::{bound, report};
-use model::sheet::{encoded, packed, raw_bits, Task};
+use model::report::{bound, converted, report};
+use model::sheet::{chain, encoded, marked_bits, packed, raw_bits, suite, Memory, Task};
 use model::store;
 
 fn tasks(list: &[(u32, u32, u8)]) -> Vec<Task> {
@@ -18,6 +18,16 @@ fn main() {
     let pair = |a, b| tasks(&[(a, 1, 2), (b, 1, 1)]);
     let sixteen: Vec<(u32, u32, u8)> = (0..16).map(|i| ([4_000, 5_000, 8_000, 10_000][i % 4], 100 + 7 * i as u32, (i * 7 % 16) as u8)).collect();
     let full: Vec<u8> = (0..16).map(|i| (i * 3 + 5) % 16).collect();
+    // Radio's tasks, and two of lower rank that show the reading and ring the bell.
+    let clock = tasks(&[(20, 5, 3), (6, 1, 5), (12, 3, 4), (30, 3, 2), (60, 4, 1)]);
+    let parts = [chain(60, &[0, 1, 2]), chain(100, &[0, 1, 3]), chain(75, &[0, 4])];
+    let second = |s: &Memory| packed(&marked_bits(2, s));
+    let spoilt = |spoil: fn(&mut Memory)| {
+        let mut s = suite(&clock, &parts);
+        spoil(&mut s);
+        second(&s)
+    };
+    let eight: Vec<_> = (0..8).map(|c| chain(100_000 + 50_000 * u32::from(c), &full.iter().map(|e| (e + c) % 16).collect::<Vec<_>>())).collect();
     let sheets: Vec<(&str, Vec<u8>)> = vec![
         ("trio", encoded(&trio, &[0, 1, 2])),
         ("radio", encoded(&radio, &[0, 1, 2])),
@@ -48,6 +58,23 @@ fn main() {
         ("refused-10-hyperperiod", encoded(&pair(1_000, 1_001), &[0])),
         ("refused-11-jobs", encoded(&pair(2, 16_384), &[0])),
         ("refused-15-late", encoded(&pair(2, 3).iter().map(|t| Task { budget: t.period - 1, ..*t }).collect::<Vec<_>>(), &[0])),
+        ("suite", second(&suite(&clock, &parts))),
+        ("suite-of-eight", second(&suite(&tasks(&sixteen), &eight))),
+        ("lone-edition-2", second(&suite(&lone, &[chain(1_000, &[0])]))),
+        ("radio-edition-2", second(&suite(&radio, &[chain(1_000, &[0, 1, 2])]))),
+        ("radio-own-limit", second(&suite(&radio, &[chain(39, &[0, 1, 2])]))),
+        ("refused-1-suite-cut-short", second(&suite(&clock, &parts))[..30].to_vec()),
+        ("refused-6-suite", spoilt(|s| s.chains[2].length = 6)),
+        ("refused-7-suite", spoilt(|s| s.chains[1].entries[2] = 5)),
+        ("refused-8-suite", spoilt(|s| s.chains[1].entries[2] = 0)),
+        ("refused-9-suite", [second(&suite(&clock, &parts)), vec![0]].concat()),
+        ("refused-10-suite", second(&suite(&pair(1_000, 1_001), &[chain(5, &[0]), chain(5, &[1])]))),
+        ("refused-13-limit", spoilt(|s| s.chains[1].limit = 4_000_001)),
+        ("refused-15-suite", second(&suite(&tasks(&[(2, 1, 2), (3, 2, 1)]), &[chain(5, &[0]), chain(5, &[1])]))),
+        ("refused-16-edition", packed(&marked_bits(3, &suite(&clock, &parts)))),
+        ("refused-16-edition-1", packed(&marked_bits(1, &suite(&clock, &parts)))),
+        ("refused-17-no-chain", spoilt(|s| s.suite = 0)),
+        ("refused-17-nine-chains", spoilt(|s| s.suite = 9)),
     ];
     let mut files: Vec<(String, Vec<u8>)> = Vec::new();
     for (name, bytes) in &sheets {
@@ -61,6 +88,8 @@ fn main() {
     files.push(("crates/report/stdout".into(), report(radio).into_bytes()));
     files.push(("crates/bound/stdin".into(), odd.clone()));
     files.push(("crates/bound/stdout".into(), bound(odd).into_bytes()));
+    files.push(("crates/convert/stdin".into(), [b"2", &radio[..]].concat()));
+    files.push(("crates/convert/stdout".into(), converted(2, radio).expect("Radio converts")));
     let files: Vec<(&str, Vec<u8>)> = files.iter().map(|(name, content)| (name.as_str(), content.clone())).collect();
     store(&files);
 }

@@ -29,16 +29,16 @@ returns-3 c =
 returns-4 : tie.Need-returns-4
 returns-4 c =
     let below = c .before .before .before in
-    let asked = below .before .before in
+    let asked = below .before .before .before in
     let a = asked .before .before .before .args in
-    rw (asked .enum-told2 .given .1) (told-left signed (a .s) (a .table .now) (c .margin-reply2 .ensures) (below .default-margin .ensures .0) (below .default-margin .ensures .1))
+    rw (asked .question3 .given .1) (told-left signed (a .s) (a .table .now) (c .margin-reply2 .ensures) (below .default-margin .ensures .0) (below .default-margin .ensures .1))
 
 returns-5 : tie.Need-returns-5
 returns-5 c =
     let below = c .before .before .before in
-    let asked = below .before .before in
+    let asked = below .before .before .before in
     let a = asked .before .before .before .args in
-    rw (asked .enum-told3 .given .1) (told-left summaryNumbers (a .s) (a .table .now) (c .figures-reply .ensures) (below .figures .ensures .0 .0) (below .figures .ensures .0 .1))
+    rw (asked .question4 .given .1) (told-left summaryNumbers (a .s) (a .table .now) (c .figures-reply .ensures) (below .figures .ensures .0 .0) (below .figures .ensures .0 .1))
 
 pub answer-spec : {M : Type 1} → statement M
 answer-spec =

@@ -7,37 +7,45 @@ use borrow.Author.Needs.{needs}
 use Rattle.bellkettle.proofs.bellkettle_read.Statement.{statement}
 use Rattle.bellkettle.proofs.bellkettle_read.Tie as tie
 
+-- The start, from where the bytes are read.
+abbrev start : tie.After-read → tie.Start
+start c = c .before .before .before .before .before .before .before .before
+
 returns : tie.Need-returns
 returns c =
     let refusing = c .before .before .before in
     let judged = refusing .before .before in
     let reading = judged .before .before in
     let r = reading .read in
-    let lent = reading .before .before .before in
-    let start = lent .before .before .before in
-    let no = judged .enum-told2 .given .1 in
-    rw (read-no (start .args .sheet .now) (r .result) (r .ensures .0) no)
-    (told-returned (start .args .values .now) (tells-as (refusing .refuse .ensures) (ap refusal (refusal-is (refusing .before .refusal-of .ensures) no))) (c .before .hand .ensures), refl, refl, refl, refl)
+    let a = start reading .args in
+    let is = judged .enum-told2 .given .1 in
+    rw (read-no (a .sheet .now) (r .result) (r .ensures .0) is)
+    (told-returned (a .values .now) (tells-as (refusing .refuse .ensures) (ap refusal (refusal-is (refusing .before .refusal-of .ensures) is))) (c .before .hand .ensures), refl, refl, refl, refl, refl, refl)
+
+-- The tasks' fields, from where the chains' are spread.
+abbrev spread-before : tie.After-spread-chains → tie.After-spread-tasks
+spread-before c = c .before .before .before .before .before .before .before .before .before
 
 returns-2 : tie.Need-returns-2
 returns-2 c =
     let counted = c .before .before .before in
-    let back = counted .before .before .before .before in
-    let spread = back .before .before .before .before in
-    let spreading = spread .before in
-    let fields = spreading .spread .ensures in
-    let lending = spreading .before .before .before in
-    let judged = lending .before .before .before in
+    let entries = counted .before .before .before in
+    let chains = entries .before .before .before .before .before .before in
+    let tasks = spread-before chains in
+    let judged = tasks .before .before .before .before .before in
     let reading = judged .before .before in
     let r = reading .read in
-    let lent = reading .before .before .before in
-    let start = lent .before .before .before in
-    rw (read-fine (start .args .sheet .now) (r .result) (r .ensures .0) (judged .enum-told .given .1)) (
-      told-returned (start .args .values .now) (counted .count-numbers .ensures) (c .before .hand2 .ensures),
-      fields .0,
-      fields .1 .0,
-      fields .1 .1 .0,
-      fields .1 .1 .1,
+    let a = start reading .args in
+    let t = tasks .spread-tasks .ensures in
+    let k = chains .spread-chains .ensures in
+    rw (read-fine (a .sheet .now) (r .result) (r .ensures .0) (judged .enum-told .given .1)) (
+      told-returned (a .values .now) (counted .count-numbers .ensures) (c .before .hand2 .ensures),
+      t .0,
+      t .1 .0,
+      t .1 .1,
+      k .0,
+      k .1,
+      entries .spread-entries .ensures,
     )
 
 pub bellkettle-read-spec : {M : Type 1} → statement M
@@ -45,5 +53,5 @@ bellkettle-read-spec =
     tie.close
     (tie.spec (λ c κs. search needs) (λ c. search needs) (λ c. search needs) (λ c κs. search needs)
     (λ c κs. search needs) (λ c κs. search needs) (λ c. search needs) returns (λ c κs. search needs)
-    (λ c κs. search needs) (λ c κs. search needs) (λ c. search needs) (λ c. search needs) (λ c. search needs)
-    (λ c. search needs) (λ c. search needs) returns-2)
+    (λ c κs. search needs) (λ c κs. search needs) (λ c κs. search needs) (λ c κs. search needs) (λ c. search needs) (λ c. search needs) (λ c. search needs)
+    (λ c. search needs) (λ c. search needs) (λ c. search needs) (λ c. search needs) returns-2)

@@ -6,8 +6,8 @@ use Rattle.bellkettle.proofs.sheet_from.Tie as tie
 returns : tie.Need-returns
 returns c =
     let counted = c .before in
-    let chain = counted .before in
-    rw (chain .before .tasks-from .ensures, chain .chain-from .ensures, counted .tasks-counted .ensures, c .few .ensures)
+    let chains = counted .before in
+    rw (chains .before .tasks-from .ensures, chains .chains-from .ensures, counted .tasks-counted .ensures, c .chains-counted .ensures)
 
 pub sheet-from-spec : {M : Type 1} → statement M
 sheet-from-spec = tie.close (tie.spec (λ c κs. search needs) (λ c κs. search needs) (λ c κs. search needs) (λ c κs. search needs) returns)

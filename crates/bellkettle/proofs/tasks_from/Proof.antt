@@ -14,7 +14,7 @@ use Rattle.bellkettle.proofs.tasks_from.Statement.{statement}
 use Rattle.bellkettle.proofs.tasks_from.Tie as tie
 
 abbrev Inv-loop : tie.InvT-loop
-Inv-loop periods budgets ranks tasks₀ i₀ tasks i = (i ≤ 16) × (tasks ≡ places none i (taskFrom periods budgets ranks))
+Inv-loop periods budgets ranks tasks₀ i₀ tasks i = (i ≤ 16) × (tasks ≡ places 16 none i (taskFrom periods budgets ranks))
 
 abbrev μ-loop : tie.MeasureT-loop
 μ-loop periods budgets ranks tasks₀ i₀ tasks i = 16 - i
@@ -28,13 +28,13 @@ loop-again c =
     let turn = c .before .before in
     let l = turn .loop in
     let a = turn .before .before .before .before .args in
-    (omega arith, ap₂ (λ x y. set x (l .i) y) (l .inv .1) (c .task-from .ensures) ∙ places-set none (taskFrom (a .periods .now) (a .budgets .now) (a .ranks .now)) (l .i) (omega arith))
+    (omega arith, ap₂ (λ x y. set x (l .i) y) (l .inv .1) (c .task-from .ensures) ∙ places-set 16 none (taskFrom (a .periods .now) (a .budgets .now) (a .ranks .now)) (l .i) (omega arith))
 
 returns : tie.Need-returns Inv-loop μ-loop
 returns c =
     let turn = c .before in
     let a = turn .before .before .before .before .args in
-    places-all none (taskFrom (a .periods .now) (a .budgets .now) (a .ranks .now)) (turn .loop .inv .1) (omega (arith, turn .loop .inv .0))
+    places-all 16 none (taskFrom (a .periods .now) (a .budgets .now) (a .ranks .now)) (turn .loop .inv .1) (omega (arith, turn .loop .inv .0))
 
 pub tasks-from-spec : {M : Type 1} → statement M
 tasks-from-spec =

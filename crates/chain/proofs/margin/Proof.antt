@@ -1,80 +1,69 @@
--- A limit over 4,000,000 is refused once H and J are judged; one that is allowed is taken less the worst, which is small.
+-- A limit over 4,000,000 is refused once the chain, H and J are judged; one that is allowed is taken less the worst, which is small.
 use mathlib.Core.Path.{_≡_, sym, ap, _∙_}
 use native.Mathlib.Omega.{arith}
 use lib.ListN.{length}
 use mir.Syntax.{w32}
 use mir.ValLaws.{toZ-ofZ}
-use borrow.Author.Needs.{needs}
 use Rattle.answers.specs.Answers.{given, after, refusal}
-use Rattle.schedule.specs.Calls.{sizesOf, toldSize}
-use Rattle.schedule.specs.CallLaws.{sizes-no}
+use Rattle.schedule.specs.Calls.{tableAfter}
+use Rattle.sheet.specs.Tasks.{tasksOf}
+use Rattle.chain.specs.declared.answer.Figure.{Figure}
 use Rattle.chain.specs.Calls.{less, figuresOf, marginOf, toldFigures, figuresRefusal}
-use Rattle.chain.specs.CallLaws.{answers-no, answers-given, answers-number, sizes-untouched, margin-over, margin-asked, figures-given}
+use Rattle.chain.specs.CallLaws.{answers-no, answers-given, over-untouched, margin-over, margin-asked, figures-given}
 use Rattle.chain.specs.Largest.{worst-most}
+use borrow.Author.Needs.{needs}
 use Rattle.chain.proofs.margin.Statement.{statement}
 use Rattle.chain.proofs.margin.Tie as tie
 
--- The start, for a limit that is over and for one that is allowed; and the table as `figures` leaves it, before a refusal and where they are given.
-abbrev over : tie.After-sizes → tie.Start
-over c = c .before .before .before
-
+-- The start, for a limit that is allowed; and the table as `figures` leaves it, before a refusal and where they are given.
 abbrev start : tie.Else1 → tie.Start
 start c = c .before .before
 
 abbrev allowed : tie.After-figures → tie.Else1
 allowed c = c .before .before
 
-abbrev refused : tie.After-enum-told3 → tie.After-figures
+abbrev refused : tie.After-enum-told → tie.After-figures
 refused c = c .before .before .before .before
 
 abbrev done : tie.After-answer → tie.After-figures
 done c = c .before .before .before .before
 
--- H and J are within their limits.
-fits : (c : tie.After-enum-told) → sizesOf (over (c .before .before) .args .s) ≡ given (c .enum-told .given .0 .0)
-fits c = sym (c .before .before .sizes .ensures) ∙ ap toldSize (c .enum-told .given .1)
-
 asked : (c : tie.Else1) → let a = start c .args in
-    marginOf (a .s) (a .limit) (length (a .table .now)) ≡ after (figuresOf (a .s) (length (a .table .now))) (λ x. given (less (a .limit) (x .worst)))
-asked c = let a = start c .args in margin-asked (a .s) (length (a .table .now)) (a .limit) (c .if1 .left)
+    marginOf (a .s) (a .number) (a .limit) (length (a .table .now)) ≡ after (figuresOf (a .s) (a .number) (length (a .table .now))) (λ x. given (less (a .limit) (x .worst)))
+asked c = let a = start c .args in margin-asked (a .s) (a .number) (length (a .table .now)) (a .limit) (c .if1 .left)
 
 -- The figures are given.
-known : (c : tie.After-answer) → let a = start (allowed (done c)) .args in figuresOf (a .s) (length (a .table .now)) ≡ given (c .answer .given .0 .0)
+known : (c : tie.After-answer) → let a = start (allowed (done c)) .args in figuresOf (a .s) (a .number) (length (a .table .now)) ≡ given (c .answer .given .0 .0)
 known c = sym (done c .figures .ensures .0 .0) ∙ ap toldFigures (c .answer .given .1)
 
 returns : tie.Need-returns
-unfolding marginOf
 returns c =
-    let a = over (c .before .before .before) .args in
-    let no = c .before .enum-told2 .given .1 in
-    let e : sizesOf (a .s) ≡ refusal (c .sizes-refusal .result) =
-    sizes-no (c .before .before .before .sizes .ensures) no (c .sizes-refusal .ensures) in
-    answers-no (a .s) (a .table .now) _ (c .sizes-refusal .result) e (sizes-untouched (a .s) (a .table .now) (c .sizes-refusal .result) e)
+    let t = c .before in
+    let a = t .before .before .args in
+    let r = c .over-limit .result in
+    let e = margin-over (a .s) (a .number) (length (a .table .now)) (a .limit) (t .if1 .taken) in
+    let o = sym (c .over-limit .ensures) in
+    (sym (e ∙ o), over-untouched (a .s) (a .table .now) r (a .number) o ∙ ap (λ x. tableAfter x (tasksOf (a .s)) (a .table .now)) (sym e))
 
 returns-2 : tie.Need-returns-2
 returns-2 c =
-    let a = over (c .before .before) .args in
-    answers-number 13 (a .s) (a .table .now) (omega arith) (margin-over (a .s) (length (a .table .now)) (fits c) (a .limit) (c .before .before .before .if1 .taken))
-
-returns-3 : tie.Need-returns-3
-returns-3 c =
     let f = refused (c .before) in
     let a = start (allowed f) .args in
-    let no = c .before .enum-told3 .given .1 in
+    let is = c .before .enum-told .given .1 in
     rw (asked (allowed f))
     (answers-no (a .s) (a .table .now) _ (c .figures-refusal .result)
-    (sym (f .figures .ensures .0 .0) ∙ ap toldFigures no ∙ ap refusal (sym (c .figures-refusal .ensures ∙ ap figuresRefusal no)))
+    (sym (f .figures .ensures .0 .0) ∙ ap toldFigures is ∙ ap refusal (sym (c .figures-refusal .ensures ∙ ap figuresRefusal is)))
     (f .figures .ensures .0 .1))
 
 less-of-requires : tie.Need-less-of-requires
 less-of-requires c κs =
     let f = allowed (done (c .before)) in
     let a = start f .args in
-    let g = figures-given (a .s) (length (a .table .now)) (known (c .before)) in
-    (f .if1 .left, omega (arith, g .worst-is, ap (λ f. f .ticks) (g .sampling-is), worst-most (g .taken)))
+    let g = figures-given (a .s) (a .number) (length (a .table .now)) (known (c .before)) in
+    (f .if1 .left, omega (arith, g .worst-is, ap (λ (f : Figure). f .ticks) (g .sampling-is), worst-most (g .taken)))
 
-returns-4 : tie.Need-returns-4
-returns-4 c =
+returns-3 : tie.Need-returns-3
+returns-3 c =
     let w = c .before .before in
     let a = start (allowed (done w)) .args in
     let read = toZ-ofZ w32 (c .less-of .result) (record { sfits = c .less-of .ok }) in
@@ -84,6 +73,5 @@ returns-4 c =
 pub margin-spec : {M : Type 1} → statement M
 margin-spec =
     tie.close
-    (tie.spec (λ c κs. search needs) (λ c. search needs) (λ c. search needs) (λ c κs. search needs) returns returns-2
-    (λ c κs. search needs) (λ c. search needs) (λ c. search needs) (λ c κs. search needs) (λ c. search needs) returns-3
-    less-of-requires (λ c. search needs) returns-4)
+    (tie.spec (λ c κs. search needs) returns (λ c κs. search needs) (λ c. search needs) (λ c. search needs) (λ c κs. search needs)
+    (λ c. search needs) returns-2 less-of-requires (λ c. search needs) returns-3)

@@ -13,7 +13,7 @@ use Rattle.recurrence.proofs.each_response.Statement.{statement}
 use Rattle.recurrence.proofs.each_response.Tie as tie
 
 abbrev Inv-loop : tie.InvT-loop
-Inv-loop s n each₀ i₀ each i = (i ≤ n) × (n ≡ s .count) × (each ≡ places 0 i (quickResponse (tasksOf s)))
+Inv-loop s n each₀ i₀ each i = (i ≤ n) × (n ≡ s .count) × (each ≡ places 16 0 i (quickResponse (tasksOf s)))
 
 abbrev μ-loop : tie.MeasureT-loop
 μ-loop s n each₀ i₀ each i = n - i
@@ -28,14 +28,14 @@ loop-again c =
     let l = c .before .before .loop in (
       omega arith,
       refl,
-      ap₂ (λ xs v. set xs (l .i) v) (l .inv .2) (c .response .ensures) ∙ places-set 0 (quickResponse (tasksOf (a .args .s))) (l .i) (omega (arith, a .pre .count-most)),
+      ap₂ (λ xs v. set xs (l .i) v) (l .inv .2) (c .response .ensures) ∙ places-set 16 0 (quickResponse (tasksOf (a .args .s))) (l .i) (omega (arith, a .pre .count-most)),
     )
 
 returns : tie.Need-returns Inv-loop μ-loop
 returns c =
     let a = c .before .before .before in
     let l = c .before .loop in
-    l .inv .2 ∙ ap (λ n. places 0 n (quickResponse (tasksOf (a .args .s)))) {x = l .i} {y = a .args .s .count} (omega (arith, l .inv .1))
+    l .inv .2 ∙ ap (λ n. places 16 0 n (quickResponse (tasksOf (a .args .s)))) {x = l .i} {y = a .args .s .count} (omega (arith, l .inv .1))
 
 pub each-response-spec : {M : Type 1} → statement M
 each-response-spec =

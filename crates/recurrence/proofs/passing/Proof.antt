@@ -3,7 +3,7 @@ use mathlib.Core.Path.{sym, ap, _∙_}
 use mathlib.Core.Logic.{⊎-elim}
 use Prim.Native.Nat.{_-_, _≤_, _<_}
 use native.Mathlib.Omega.{arith}
-use Rattle.sheet.specs.Tasks.{lateness}
+use Rattle.sheet.specs.Lateness.{lateness}
 use Rattle.recurrence.specs.CallLaws.{FoundTo, slotOf, found-start, found-more, found-lower, found-same, found-all, some-slot}
 use borrow.Author.Needs.{needs}
 use Rattle.recurrence.proofs.passing.Statement.{statement}

@@ -34,7 +34,7 @@ row-greatest ts table holds i from n known starts size room =
     ∙ getD-drop from table k 0 ∙ ap (λ a. getD table (a + k) 0) starts ∙ holds .entry i k known l)
 
 abbrev Inv-loop : tie.InvT-loop
-Inv-loop h table s n each₀ from₀ i₀ each from i = (i ≤ n) × (n ≡ s .count) × (from ≡ sum i (jobs (tasksOf s))) × (each ≡ places 0 i (taskResponse (tasksOf s)))
+Inv-loop h table s n each₀ from₀ i₀ each from i = (i ≤ n) × (n ≡ s .count) × (from ≡ sum i (jobs (tasksOf s))) × (each ≡ places 16 0 i (taskResponse (tasksOf s)))
 
 abbrev μ-loop : tie.MeasureT-loop
 μ-loop h table s n each₀ from₀ i₀ each from i = n - i
@@ -94,14 +94,14 @@ loop-again c =
       omega arith,
       l .inv .1,
       omega (arith, l .inv .2, jobs-next (a .pre .0) (a .args .h) (l .i) (a .pre .1 .0) known),
-      ap₂ (λ x y. set x (l .i) y) (l .inv .3) (c .greatest .ensures ∙ row-greatest ts (a .args .table .now) (a .pre .1 .1) (l .i) (l .from) _ (omega (arith, tasks-length (a .pre .0))) (l .inv .2) (jobs-at (a .pre .0) (a .pre .1 .0 .is-hyperperiod) (l .i) known) (omega (arith, a .pre .1 .1 .enough, l .inv .2, jobs-within (a .pre .0) (a .args .h) (l .i) (a .pre .1 .0) known))) ∙ places-set 0 (taskResponse ts) (l .i) (omega (arith, a .pre .0 .count-most)),
+      ap₂ (λ x y. set x (l .i) y) (l .inv .3) (c .greatest .ensures ∙ row-greatest ts (a .args .table .now) (a .pre .1 .1) (l .i) (l .from) _ (omega (arith, tasks-length (a .pre .0))) (l .inv .2) (jobs-at (a .pre .0) (a .pre .1 .0 .is-hyperperiod) (l .i) known) (omega (arith, a .pre .1 .1 .enough, l .inv .2, jobs-within (a .pre .0) (a .args .h) (l .i) (a .pre .1 .0) known))) ∙ places-set 16 0 (taskResponse ts) (l .i) (omega (arith, a .pre .0 .count-most)),
     )
 
 returns : tie.Need-returns Inv-loop μ-loop
 returns c =
     let a = start (c .before) in
     let l = c .before .loop in
-    l .inv .3 ∙ ap (λ n. places 0 n (taskResponse (tasksOf (a .args .t1)))) {x = l .i} {y = a .args .t1 .count} (omega (arith, l .inv .1))
+    l .inv .3 ∙ ap (λ n. places 16 0 n (taskResponse (tasksOf (a .args .t1)))) {x = l .i} {y = a .args .t1 .count} (omega (arith, l .inv .1))
 
 pub greatest-each-spec : {M : Type 1} → statement M
 greatest-each-spec =

@@ -1,13 +1,10 @@
 -- The rows that `responses` leaves hold each task's responses, so the greatest entry of a row is R of its task.
-use mathlib.Core.Path.{_≡_, refl, sym, ap, _∙_}
+use mathlib.Core.Path.{sym, ap, _∙_}
 use native.Mathlib.Omega.{arith}
-use lib.ListN.{length, replicate}
-use Rattle.bits.specs.Bits.{listOf}
-use Rattle.sheet.specs.declared.Sheet.{Sheet}
-use Rattle.answers.specs.declared.Refusal.{Refusal}
-use Rattle.answers.specs.Answers.{refusal}
+use lib.ListN.{length}
 use Rattle.sheet.specs.SoundLaws.{judged-sound}
 use Rattle.schedule.specs.Calls.{greatestAfter, toldTotals}
+use Rattle.schedule.specs.CallLaws.{greatest-none}
 use Rattle.schedule.specs.Results.{responses-given}
 use Rattle.schedule.specs.RowLaws.{filled-holds}
 use borrow.Author.Needs.{needs}
@@ -24,11 +21,6 @@ refused c = c .before .before .before .before
 abbrev done : tie.After-answer → tie.After-responses
 done c = c .before .before .before .before
 
--- a refusal leaves zeros
-greatest-none : (r : Refusal) (s : Sheet) → replicate 16 0 ≡ greatestAfter (refusal r) s
-unfolding listOf
-greatest-none r s = refl
-
 same-length : tie.Need-same-length
 same-length c = refused c .responses .kept .1 .0
 
@@ -36,7 +28,7 @@ returns : tie.Need-returns
 returns c =
     let r = refused c .responses in
     let s = start (refused c) .args .s in
-    (r .ensures, greatest-none (c .enum-told .given .0 .0) s ∙ sym (ap (λ a. greatestAfter a s) (sym (r .ensures .0) ∙ ap toldTotals (c .enum-told .given .1))))
+    (r .ensures, greatest-none (c .enum-told .given .0 .0) s (sym (r .ensures .0) ∙ ap toldTotals (c .enum-told .given .1)))
 
 greatest-each-requires : tie.Need-greatest-each-requires
 greatest-each-requires c κs =

@@ -1,61 +1,28 @@
--- After i turns the first i places are taken, and the next entry begins so many entries further on.
-use mathlib.Core.Path.{_≡_, refl, ap, ap₂, _∙_}
-use Prim.Native.Nat.{ℕ, _+_, _-_, _*_, _≤_, min}
+-- Each part is read where the one before it ends.
+use mathlib.Core.Path.{ap, _∙_}
+use Prim.Native.Nat.{_+_, _-_, _*_, min}
 use native.Mathlib.Omega.{arith}
-use lib.ListN.{set}
-use Rattle.bits.specs.Bits.{unpack, listOf}
+use Rattle.bits.specs.Bits.{unpack, number}
 use Rattle.bits.specs.Laws.{number-lt}
-use Rattle.sheet.specs.declared.Field.the-variants.{Entry}
 use Rattle.sheet.specs.Fields.{width}
 use Rattle.sheet.specs.Calls.{places}
-use Rattle.sheet.specs.Order.{entryAt}
-use Rattle.sheet.specs.PlaceLaws.{places-set, places-most}
 use borrow.Author.Needs.{needs}
 use Rattle.sheet.proofs.chain_at.Statement.{statement}
 use Rattle.sheet.proofs.chain_at.Tie as tie
 
-abbrev Inv-loop : tie.InvT-loop
-Inv-loop bytes at m chain₀ end begin₀ i₀ chain begin i = (i ≤ end) × (end ≡ min m 16) × (at ≤ 50000) × (begin ≡ at + width (Entry i) * i) × (chain ≡ places 0 i (λ j. entryAt (unpack bytes) (at + width (Entry j) * j)))
+cast-length : tie.Need-cast-length
+cast-length c = omega (arith, c .number2 .ensures, number-lt (unpack (c .before .before .before .args .bytes .now)) (c .before .before .before .args .at + c .before .before .before .args .width) 5)
 
-abbrev μ-loop : tie.MeasureT-loop
-μ-loop bytes at m chain₀ end begin₀ i₀ chain begin i = end - i
-
-loop-holds : tie.Need-loop-holds Inv-loop μ-loop
-unfolding listOf
-loop-holds c = (omega arith, c .taken .ensures, omega arith, omega arith, refl)
-
-cast-chain : tie.Need-cast-chain Inv-loop μ-loop
-cast-chain c =
-    let turn = c .before .before in
-    let a = turn .before .before .before .args in
-    omega (arith, c .number .ensures, number-lt (unpack (a .bytes .now)) (turn .loop .begin) 4)
-
-array-write-chain : tie.Need-array-write-chain Inv-loop μ-loop
-array-write-chain c = omega (arith, c .before .before .loop .inv .1)
-
-loop-again : tie.Need-loop-again Inv-loop μ-loop
-loop-again c =
-    let turn = c .before .before in
-    let a = turn .before .before .before .args in
-    let l = turn .loop in
-    let bs = unpack (a .bytes .now) in
-    let f : ℕ → ℕ = λ j. entryAt bs (a .at + width (Entry j) * j) in (
-      omega arith,
-      l .inv .1,
-      l .inv .2,
-      omega (arith, l .inv .3),
-      ap₂ (λ x y. set x (l .i) y) (l .inv .4) (c .number .ensures ∙ ap (entryAt bs) (l .inv .3)) ∙ places-set 0 f (l .i) (omega (arith, l .inv .1)),
-    )
-
-returns : tie.Need-returns Inv-loop μ-loop
+returns : tie.Need-returns
 returns c =
     let a = c .before .before .before .before .args in
-    let l = c .before .loop in
-    let f : ℕ → ℕ = λ j. entryAt (unpack (a .bytes .now)) (a .at + width (Entry j) * j) in
-    l .inv .4 ∙ ap (λ k. places 0 k f) {x = l .i} {y = min (a .m) 16} (omega (arith, l .inv .1)) ∙ places-most 0 f (a .m)
+    let bs = unpack (a .bytes .now) in
+    let limit = c .before .before .number .ensures ∙ ap (number bs (a .at)) {x = min (a .width) 32} {y = a .width} (omega arith) in
+    let m = c .before .number2 .ensures in
+    let entries = c .entries-at .ensures ∙ ap (λ k. places 16 0 k (λ i. number bs (a .at + a .width + 5 + 4 * i) 4)) m in cc
 
 pub chain-at-spec : {M : Type 1} → statement M
 chain-at-spec =
     tie.close
-    (tie.spec Inv-loop μ-loop (λ c κs. search needs) loop-holds (λ c. search needs) (λ c κs. search needs) cast-chain
-    array-write-chain (λ c. search needs) (λ c. search needs) (λ c. search needs) loop-again returns)
+    (tie.spec (λ c κs. search needs) (λ c. search needs) (λ c κs. search needs) cast-length (λ c. search needs)
+    (λ c. search needs) (λ c κs. search needs) returns)

@@ -17,7 +17,7 @@ use Rattle.sheet.proofs.ranks_of.Statement.{statement}
 use Rattle.sheet.proofs.ranks_of.Tie as tie
 
 abbrev Inv-loop : tie.InvT-loop
-Inv-loop s ranks₀ k₀ ranks k = (k ≤ 16) × (ranks ≡ places 0 k (λ j. value s (Rank j)))
+Inv-loop s ranks₀ k₀ ranks k = (k ≤ 16) × (ranks ≡ places 16 0 k (λ j. value s (Rank j)))
 
 abbrev μ-loop : tie.MeasureT-loop
 μ-loop s ranks₀ k₀ ranks k = 16 - k
@@ -30,7 +30,7 @@ loop-again : tie.Need-loop-again Inv-loop μ-loop
 loop-again c =
     let l = c .before .loop in
     let f : ℕ → ℕ = λ j. value (c .before .before .args .t1) (Rank j) in
-    (omega arith, ap (λ x. set x (l .k) (f (l .k))) (l .inv .1) ∙ places-set 0 f (l .k) (omega arith))
+    (omega arith, ap (λ x. set x (l .k) (f (l .k))) (l .inv .1) ∙ places-set 16 0 f (l .k) (omega arith))
 
 returns : tie.Need-returns Inv-loop μ-loop
 returns c = fun-ext (λ j. ap (λ x. nth x j) whole ∙ go j (decLt j 16))
@@ -41,15 +41,15 @@ returns c = fun-ext (λ j. ap (λ x. nth x j) whole ∙ go j (decLt j 16))
     f : ℕ → ℕ
     f j = value s (Rank j)
 
-    whole : c .before .loop .ranks ≡ places 0 16 f
-    whole = c .before .loop .inv .1 ∙ ap (λ k. places 0 k f) (omega arith)
+    whole : c .before .loop .ranks ≡ places 16 0 16 f
+    whole = c .before .loop .inv .1 ∙ ap (λ k. places 16 0 k f) (omega arith)
 
     long : length (s .tasks) ≡ 16
     long = sym (length-map (s .tasks) _) ∙ c .before .before .good .0 .1 .1 .0 .1 .0 .1
 
-    go : (j : ℕ) → Dec (j < 16) → nth (places 0 16 f) j ≡ f j
-    go j (yes h) = places-taken 0 f 16 j h h
-    go j (no h) = List·getD-eq-default (places 0 16 f) 0 (omega (arith, length-places 0 f 16)) ∙ sym (ap (λ t. t .rank) (List·getD-eq-default (s .tasks) none (omega (arith, long))))
+    go : (j : ℕ) → Dec (j < 16) → nth (places 16 0 16 f) j ≡ f j
+    go j (yes h) = places-taken 16 0 f 16 0 j h h
+    go j (no h) = List·getD-eq-default (places 16 0 16 f) 0 (omega (arith, length-places 16 0 f 16)) ∙ sym (ap (λ t. t .rank) (List·getD-eq-default (s .tasks) none (omega (arith, long))))
 
 pub ranks-of-spec : {M : Type 1} → statement M
 ranks-of-spec =

@@ -9,4 +9,6 @@ unfolding listOf
 returns c = (refl, refl)
 
 pub refused-spec : {M : Type 1} → statement M
-refused-spec = tie.close (tie.spec returns)
+refused-spec =
+    tie.close
+    (tie.spec returns)

@@ -6,15 +6,15 @@ use lib.ListN.{set}
 use Rattle.bits.specs.Bits.{unpack, listOf}
 use Rattle.theory.specs.declared.Task.{Task}
 use Rattle.theory.specs.Model.Schedule.{none}
-use Rattle.sheet.specs.Calls.{places}
-use Rattle.sheet.specs.Order.{taskBits, taskAt}
+use Rattle.sheet.specs.Calls.{places, taskBits}
+use Rattle.sheet.specs.Order.{taskAt}
 use Rattle.sheet.specs.PlaceLaws.{places-set, places-most}
 use borrow.Author.Needs.{needs}
 use Rattle.sheet.proofs.tasks_at.Statement.{statement}
 use Rattle.sheet.proofs.tasks_at.Tie as tie
 
 abbrev Inv-loop : tie.InvT-loop
-Inv-loop bytes at n tasks₀ end begin₀ i₀ tasks begin i = (i ≤ end) × (end ≡ min n 16) × (at ≤ 50000) × (begin ≡ at + taskBits * i) × (tasks ≡ places none i (λ j. taskAt (unpack bytes) (at + taskBits * j)))
+Inv-loop bytes at n tasks₀ end begin₀ i₀ tasks begin i = (i ≤ end) × (end ≡ min n 16) × (at ≤ 1000) × (begin ≡ at + taskBits * i) × (tasks ≡ places 16 none i (λ j. taskAt (unpack bytes) (at + taskBits * j)))
 
 abbrev μ-loop : tie.MeasureT-loop
 μ-loop bytes at n tasks₀ end begin₀ i₀ tasks begin i = end - i
@@ -43,7 +43,7 @@ loop-again c =
       l .inv .1,
       l .inv .2,
       omega (arith, l .inv .3),
-      ap₂ (λ x y. set x (l .i) y) (l .inv .4) (c .task-at .ensures ∙ ap (taskAt bs) (l .inv .3)) ∙ places-set none f (l .i) (omega (arith, l .inv .1)),
+      ap₂ (λ x y. set x (l .i) y) (l .inv .4) (c .task-at .ensures ∙ ap (taskAt bs) (l .inv .3)) ∙ places-set 16 none f (l .i) (omega (arith, l .inv .1)),
     )
 
 returns : tie.Need-returns Inv-loop μ-loop
@@ -51,7 +51,7 @@ returns c =
     let a = c .before .before .before .before .args in
     let l = c .before .loop in
     let f : ℕ → Task = λ j. taskAt (unpack (a .bytes .now)) (a .at + taskBits * j) in
-    l .inv .4 ∙ ap (λ k. places none k f) {x = l .i} {y = min (a .n) 16} (omega (arith, l .inv .1)) ∙ places-most none f (a .n)
+    l .inv .4 ∙ ap (λ k. places 16 none k f) {x = l .i} {y = min (a .n) 16} (omega (arith, l .inv .1)) ∙ places-most 16 none f (a .n)
 
 pub tasks-at-spec : {M : Type 1} → statement M
 tasks-at-spec =

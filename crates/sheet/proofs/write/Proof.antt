@@ -14,9 +14,8 @@ use Rattle.bits.specs.Bytes.{written-is}
 use Rattle.sheet.specs.declared.Sheet.{Sheet}
 use Rattle.answers.specs.Answers.{Answer, given, when, also, refusal}
 use Rattle.answers.specs.AnswerLaws.{also-no, also-fine, refusal-is}
-use Rattle.sheet.specs.Fields.{value}
-use Rattle.sheet.specs.FormatLaws.{length-bits-of}
-use Rattle.sheet.specs.Calls.{fieldsOf, bitsOf, endOf, sizeOf, writeOf}
+use Rattle.sheet.specs.EncodedLaws.{length-packed}
+use Rattle.sheet.specs.Calls.{packed, endOf, sizeOf, writeOf}
 use borrow.Author.Needs.{needs}
 use Rattle.sheet.proofs.write.Statement.{statement}
 use Rattle.sheet.proofs.write.Tie as tie
@@ -64,10 +63,10 @@ returns-3 c =
     let end : ℕ = at-end-of .end-of .result in
     let end-is : end ≡ endOf s = at-end-of .end-of .ensures .0 in
     let fits : sizeOf s ≤ length old = omega (arith, end-is, at-if-1 .if1 .left) in
-    let bs = bitsOf (value s) (fieldsOf s) in
+    let bs = packed s in
     let z : ℕ = (end + 7) / 8 * 8 - end in
     let pad = bits z 0 in
-    let long : length bs ≡ end = length-bits-of s ∙ sym end-is in
+    let long : length bs ≡ end = length-packed s ∙ sym end-is in
     let put : unpack (at-put .put .last .0) ≡ sets (unpack old) 0 (bs ++ pad) =
     at-put .put .ensures
     ∙ ap₂ (λ x w. sets x end (bits w 0)) {u = min z 32} {v = z} (at-put-fields .put-fields .ensures) (omega arith)

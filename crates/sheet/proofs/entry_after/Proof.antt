@@ -1,0 +1,21 @@
+-- The two arms are the definition's.
+use mathlib.Core.Path.{sym, ap, _∙_}
+use mathlib.Core.Bool.{cond}
+use Prim.Native.Nat.{_+_, _-_}
+use native.Mathlib.Omega.{arith}
+use borrow.Author.Tests.{le-ltb}
+use Rattle.sheet.specs.declared.Field.the-variants.{Entry}
+use Rattle.sheet.specs.Fields.{kindOf, entries, value}
+use Rattle.sheet.specs.Order.{chainOpening}
+use borrow.Author.Needs.{needs}
+use Rattle.sheet.proofs.entry_after.Statement.{statement}
+use Rattle.sheet.proofs.entry_after.Tie as tie
+
+returns-2 : tie.Need-returns-2
+returns-2 c = let a = c .before .before .args in c .chain-opening .ensures ∙ sym (ap (λ b. cond b (Entry (a .c) (a .i + 1)) (chainOpening (kindOf (value (a .s))) (a .c + 1))) (le-ltb (a .i + 1) (entries (value (a .s)) (a .c)) (omega arith)))
+
+pub entry-after-spec : {M : Type 1} → statement M
+entry-after-spec =
+    tie.close
+    (tie.spec (λ c. search needs) (λ c κs. search needs) (λ c. search needs) (λ c. search needs)
+    (λ c κs. search needs) returns-2)

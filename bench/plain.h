@@ -11,7 +11,7 @@
 #include <stdlib.h>
 #include <string.h>
 
-enum { MOST_TASKS = 16, MOST_CHAINS = 8, MOST_JOBS = 8192, MOST_TICKS = 1000000, MOST_PERIOD = 100000, MOST_LIMIT = 4000000 };
+enum { MOST_TASKS = 16, MOST_CHAINS = 8, MOST_JOBS = 8192, MOST_TICKS = 1000000, MOST_PERIOD = 100000, MOST_LIMIT = 4000000, OLD_LIMIT = 1000 };
 
 struct task {
     uint32_t period, budget;
@@ -93,7 +93,7 @@ static void read_entries(struct reader *r, const struct sheet *s, struct chain *
     }
 }
 
-// The chains of edition 2, each with its limit; an old sheet has one, under 1,000.
+// The chains of edition 2, each with its limit; an old sheet has one, under the old limit.
 static void read_chains(struct reader *r, struct sheet *s, bool marked) {
     s->suite = 1;
     if (marked) {
@@ -102,7 +102,7 @@ static void read_chains(struct reader *r, struct sheet *s, bool marked) {
             refuse(17);
     }
     for (uint32_t c = 0; c < s->suite; c++) {
-        s->chains[c].limit = marked ? field(r, 22) : 1000;
+        s->chains[c].limit = marked ? field(r, 22) : OLD_LIMIT;
         if (MOST_LIMIT < s->chains[c].limit)
             refuse(13);
         read_entries(r, s, &s->chains[c]);

@@ -88,6 +88,10 @@ extern "C" {
 #define BELLKETTLE_CHAINS 8
 #define BELLKETTLE_SHEET 178
 
+/* The limit of bellkettle_default_margin, and that of an old sheet's report, which its conversion keeps; in ticks. */
+#define BELLKETTLE_DEFAULT_LIMIT 500
+#define BELLKETTLE_OLD_LIMIT 1000
+
 /* values: H, J and the idle ticks before H. Refuses 1 to 9, 13, 16, 17 of a field; 10, 11, 14, 15. */
 uint8_t bellkettle_responses(const uint8_t *sheet, size_t sheet_length,
                              uint32_t *table, size_t table_length,
@@ -106,7 +110,10 @@ uint8_t bellkettle_margin(const uint8_t *sheet, size_t sheet_length, uint8_t cha
                           uint32_t *table, size_t table_length,
                           int64_t *values, size_t values_length);
 
-/* values: the margin under a limit of 1,000 ticks, whatever the chain's own. Refuses 1 to 9, 13, 16, 17 of a field; 17, 10, 11, 14, 15. */
+/*
+ * values: the margin under BELLKETTLE_DEFAULT_LIMIT, whatever the chain's own limit and the sheet's edition. Refuses 1 to 9, 13, 16, 17 of a
+ * field; 17, 10, 11, 14, 15.
+ */
 uint8_t bellkettle_default_margin(const uint8_t *sheet, size_t sheet_length, uint8_t chain,
                                   uint32_t *table, size_t table_length,
                                   int64_t *values, size_t values_length);
@@ -114,7 +121,7 @@ uint8_t bellkettle_default_margin(const uint8_t *sheet, size_t sheet_length, uin
 /*
  * The figures of the chain, from one filling of the table. values, nine: H, J, the idle ticks before H; the sampling figure, the smallest
  * release that gives it, the sampling bound; the worst, its bound, and the margin that the report prints: under the chain's own limit, on an
- * old sheet under 1,000 ticks. The response of a task is the greatest of its row. Refuses 1 to 9, 13, 16, 17 of a field; 17, 10, 11, 14, 15.
+ * old sheet under BELLKETTLE_OLD_LIMIT. The response of a task is the greatest of its row. Refuses 1 to 9, 13, 16, 17 of a field; 17, 10, 11, 14, 15.
  */
 uint8_t bellkettle_figures(const uint8_t *sheet, size_t sheet_length, uint8_t chain,
                            uint32_t *table, size_t table_length,

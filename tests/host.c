@@ -367,8 +367,9 @@ static void document_two_and_three(void) {
     expect_given(&radio, DELAY, 0, 18, rows, 1, (int64_t[]){16});
     expect_given(&radio, DELAY, 20, 18, rows, 1, (int64_t[]){20});
     expect_given(&radio, DELAY, 40, 18, rows, 1, (int64_t[]){12});
-    expect_given(&radio, DEFAULT_MARGIN, 0, 18, rows, 1, (int64_t[]){961});
-    expect_given(&radio, MARGIN, 1000, 18, rows, 1, (int64_t[]){961});
+    expect_given(&radio, DEFAULT_MARGIN, 0, 18, rows, 1, (int64_t[]){461});
+    expect_given(&radio, MARGIN, BELLKETTLE_DEFAULT_LIMIT, 18, rows, 1, (int64_t[]){461});
+    expect_given(&radio, MARGIN, BELLKETTLE_OLD_LIMIT, 18, rows, 1, (int64_t[]){961});
     expect_given(&radio, MARGIN, 39, 18, rows, 1, (int64_t[]){0});
     expect_given(&radio, MARGIN, 0, 18, rows, 1, (int64_t[]){-39});
     expect_given(&radio, MARGIN, 4000000, 18, rows, 1, (int64_t[]){3999961});
@@ -624,8 +625,8 @@ static void several_chains(void) {
     expect_of_chain(&both, DELAY, 2, 20, 18, rows, 1, (int64_t[]){11});
     expect_of_chain(&both, MARGIN, 1, 40, 18, rows, 1, (int64_t[]){1});
     expect_of_chain(&both, MARGIN, 2, 40, 18, rows, 1, (int64_t[]){8});
-    expect_of_chain(&both, DEFAULT_MARGIN, 1, 0, 18, rows, 1, (int64_t[]){961});
-    expect_of_chain(&both, DEFAULT_MARGIN, 2, 0, 18, rows, 1, (int64_t[]){968});
+    expect_of_chain(&both, DEFAULT_MARGIN, 1, 0, 18, rows, 1, (int64_t[]){461});
+    expect_of_chain(&both, DEFAULT_MARGIN, 2, 0, 18, rows, 1, (int64_t[]){468});
     expect_of_chain(&both, FIGURES, 1, 0, 18, rows, 9, (int64_t[]){60, 18, 20, 20, 20, 24, 39, 43, 0});
     expect_of_chain(&both, FIGURES, 2, 0, 18, rows, 9, (int64_t[]){60, 18, 20, 13, 0, 15, 32, 34, 3999968});
     expect_of_chain(&both, QUICK_BOUND, 1, 0, 0, NULL, 2, (int64_t[]){24, 43});
@@ -714,10 +715,21 @@ static void first_periods(void) {
     expect_given(&longest_period, MARGIN, 100000, 1, (uint32_t[]){1}, 1, (int64_t[]){0});
 }
 
-/* The same, over 1,000. */
+/* The same, near the two limits: what takes 501 to 1,000 ticks keeps that of an old sheet and not the default. */
+static void two_limits(void) {
+    const uint32_t periods[] = {500, 501, 1000, 1001};
+    for (size_t i = 0; i < sizeof periods / sizeof *periods; i++) {
+        uint32_t worst = periods[i];
+        const struct fields f = {"a worst near a limit", 1, {worst}, {1}, {1}, {{1, {0}, 0}}, 0, 0};
+        expect_given(&f, DEFAULT_MARGIN, 0, 1, (uint32_t[]){1}, 1, (int64_t[]){500 - (int64_t)worst});
+        expect_given(&f, FIGURES, 0, 1, (uint32_t[]){1}, 9, (int64_t[]){worst, 1, worst - 1, 1, 0, 1, worst, worst, 1000 - (int64_t)worst});
+    }
+}
+
+/* The same, over both. */
 static void margin_below_zero(void) {
     expect_sheet(&slow, 1);
-    expect_given(&slow, DEFAULT_MARGIN, 0, 1, (uint32_t[]){2000}, 1, (int64_t[]){-5999});
+    expect_given(&slow, DEFAULT_MARGIN, 0, 1, (uint32_t[]){2000}, 1, (int64_t[]){-6499});
     expect_given(&slow, FIGURES, 0, 1, (uint32_t[]){2000}, 9, (int64_t[]){5000, 1, 3000, 2000, 0, 2000, 6999, 6999, -5999});
 }
 
@@ -781,6 +793,7 @@ int main(void) {
     chain_numbers();
     refusals_of_numbers();
     first_periods();
+    two_limits();
     margin_below_zero();
     odd_periods();
     short_memory();

@@ -6,8 +6,8 @@ use crate::schedule::{fill, sizes, Sizes, Worked};
 use crate::sheet::{judge, numbered, Memory, Task, OLD_LIMIT};
 use crate::Refusal;
 
-/// "The call without a limit uses 1,000 ticks."
-pub const DEFAULT_LIMIT: u32 = 1_000;
+/// "The margin call without a limit should use 500 ticks."
+const DEFAULT_LIMIT: u32 = 500;
 
 /// The least multiple of `step` that is at least `x`.
 fn multiple_from(step: u32, x: u32) -> u32 {
@@ -124,7 +124,11 @@ pub fn margin(s: &Memory, number: u8, limit: u32, table: &mut [u32]) -> Result<i
     Ok(fill(z, table)?.figures(chain, limit).margin)
 }
 
-/// "the report prints the chain lines once per chain, with the margin under its limit", for an old sheet under 1,000.
+pub fn default_margin(s: &Memory, number: u8, table: &mut [u32]) -> Result<i64, Refusal> {
+    margin(s, number, DEFAULT_LIMIT, table)
+}
+
+/// "the report prints the chain lines once per chain, with the margin under its limit"; "The report on an old sheet" passes 1,000.
 fn report_limit(s: &Memory, number: u8) -> u32 {
     if s.edition == 1 { OLD_LIMIT } else { s.chains[usize::from(number) - 1].limit }
 }

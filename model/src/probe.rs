@@ -247,7 +247,7 @@ fn of_sheet(call: Call, number: u32, chain: u8, s: &Memory, buffer: &mut [u8], t
         TaskResponses => schedule::responses(s, table).map(|w| [totals(&w), greatest(&w)].concat()),
         Delay => chain::delay(s, chain, number, table).map(|d| vec![d]),
         Margin => chain::margin(s, chain, number, table).map(signed),
-        DefaultMargin => chain::margin(s, chain, chain::DEFAULT_LIMIT, table).map(signed),
+        DefaultMargin => chain::default_margin(s, chain, table).map(signed),
         Figures => chain::figures(s, chain, table).map(|(w, f)| [totals(&w), chain_values(&f), greatest(&w)].concat()),
         QuickBound => quick(s, chain).map(|q| [vec![q.sampling_bound, q.bound], sixteen(q.responses)].concat()),
         Suite => chain::suite(s, table).map(|(w, chains)| [totals(&w), greatest(&w), eight(&totals(&w), &chains)].concat()),

@@ -3,7 +3,7 @@
 use crate::bits::{bytes_of, text_of};
 use crate::Refusal;
 
-/// "Old sheets convert in memory to one chain with limit 1,000."
+/// "The report on an old sheet and the conversion of old sheets must pass 1,000 by name".
 pub const OLD_LIMIT: u32 = 1_000;
 
 /// The first five bits of a sheet that says its edition.

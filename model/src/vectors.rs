@@ -491,6 +491,10 @@ fn chains() -> Vec<Request> {
     ];
     let margins = [
         (DefaultMargin, 0, radio(3), 20),
+        (DefaultMargin, 0, first_of(500), 20),
+        (DefaultMargin, 0, first_of(501), 20),
+        (Figures, 0, first_of(1_000), 20),
+        (Figures, 0, first_of(1_001), 20),
         (Margin, 40, radio(3), 20),
         (Margin, 39, radio(3), 20),
         (Margin, 38, radio(3), 20),
@@ -672,7 +676,7 @@ fn conversions() -> Vec<Request> {
     noisy.chains[0] = Chain { limit: 55, ..old.chains[0] };
     noisy.tasks[9] = task(1, 2, 3);
     let noisy_suite = Memory { edition: 2, suite: 1, chains: [Chain { limit: 1_000, ..old.chains[0] }, noise, noise, noise, noise, noise, noise, noise], ..noisy };
-    let mut sheets = vec![old, noisy, noisy_suite, one(1_000), one(999), one(1_001), one(0), one(4_000_000), one(4_000_001), two(1_000), two(999)];
+    let mut sheets = vec![old, noisy, noisy_suite, one(1_000), one(999), one(1_001), one(500), one(0), one(4_000_000), one(4_000_001), two(1_000), two(999)];
     sheets.extend([full_suite(16, 8), full_suite(16, 1), Memory::default()]);
     sheets.extend([0, 3, 15, 255].map(|edition| Memory { edition, ..one(1_000) }));
     sheets.extend([0, 9, 255].map(|suite| Memory { suite, ..two(999) }));

@@ -1,9 +1,9 @@
 //! The model against the figures that documents 01 and 02 print and the places that document 02 names.
 
-use model::chain::{delay, figures, margin};
+use model::chain::{default_margin, delay, figures, margin};
 use model::report::report;
 use model::schedule::{night, responses};
-use model::sheet::{encoded, judge, memory, read, unjudged, write, Chain, Memory, Task};
+use model::sheet::{encoded, judge, memory, read, to_second, unjudged, write, Chain, Memory, Task};
 use model::Refusal;
 
 fn sheet(tasks: &[(u32, u32, u8)], chain: &[u8]) -> Memory {
@@ -15,7 +15,7 @@ const TRIO: &[(u32, u32, u8)] = &[(8, 1, 1), (2, 1, 3), (4, 1, 2)];
 const RADIO: &[(u32, u32, u8)] = &[(20, 5, 1), (6, 1, 3), (12, 3, 2)];
 const QUARTET: &[(u32, u32, u8)] = &[(6, 1, 4), (6, 1, 3), (3, 1, 2), (6, 1, 1)];
 
-/// What counts from a flag: worst, bound, and the margin under the default limit.
+/// What counts from a flag: worst, bound, and the margin of the report.
 fn from_a_flag(s: &Memory) -> (u32, u32, i64) {
     let (_, f) = figures(s, 1, &mut [0; 8_192]).unwrap();
     (f.worst, f.bound, f.margin)
@@ -54,6 +54,22 @@ fn radio() {
     assert_eq!([Ok(13), Ok(11), Ok(9)], [0, 20, 40].map(|r| delay(&short, 1, r, &mut table)));
     assert_eq!((13, 0, 15), from_a_release(&short, &mut table));
     assert_eq!((13 + 19, 15 + 19, 968), from_a_flag(&short));
+}
+
+/// "The margin call without a limit should use 500 ticks. The report on an old sheet and the conversion of old sheets must pass 1,000 by name".
+/// A task alone, of budget 1, has its period for its worst: 501 to 1,000 ticks are kept by the one limit and not by the other.
+#[test]
+fn half_a_second() {
+    for (period, by_default, reported) in [(500, 0, 500), (501, -1, 499), (1_000, -500, 0), (1_001, -501, -1)] {
+        let old = sheet(&[(period, 1, 1)], &[0]);
+        for s in [old, to_second(&old).unwrap()] {
+            assert_eq!(Ok(by_default), default_margin(&s, 1, &mut [0]));
+            assert_eq!((period, period, reported), from_a_flag(&s));
+        }
+    }
+    let radio = sheet(RADIO, &[0, 1, 2]);
+    assert_eq!(Ok(461), default_margin(&radio, 1, &mut [0; 18]));
+    assert_eq!(1_000, to_second(&radio).unwrap().chains[0].limit);
 }
 
 /// "T − 1 of the first task": nothing where it is released at every tick.

@@ -1,7 +1,7 @@
 //! The second edition of the sheet against the words of document 02's P3: its sizes, the places of its fields, its refusals in order, chain
 //! numbers and conversions.
 
-use model::chain::{delay, figures, margin, suite as all_chains, DEFAULT_LIMIT};
+use model::chain::{default_margin, delay, figures, margin, suite as all_chains};
 use model::generate::sheet as any_sheet;
 use model::random::Random;
 use model::recurrence::quick;
@@ -247,6 +247,7 @@ fn chain_numbers() {
         let mut table = [7; 20];
         assert_eq!(Err(alone(17)), delay(s, number, 1, &mut table));
         assert_eq!(Err(alone(17)), margin(s, number, 4_000_001, &mut table));
+        assert_eq!(Err(alone(17)), default_margin(s, number, &mut table));
         assert_eq!(Some(alone(17)), figures(s, number, &mut table).err());
         assert_eq!(Some(alone(17)), quick(s, number).err());
         assert_eq!([7; 20], table);
@@ -263,7 +264,7 @@ fn chain_numbers() {
     }
     for count in [0, 1, 2, 8, 255] {
         let old = Memory { suite: count, ..memory(&RADIO, &[0, 1, 2]) };
-        assert_eq!(Ok(961), margin(&old, 1, DEFAULT_LIMIT, &mut [0; 18]));
+        assert_eq!(Ok(461), default_margin(&old, 1, &mut [0; 18]));
         for number in [0, 2, 255] {
             lacking(&old, number);
         }
@@ -293,7 +294,7 @@ fn figures_of_each_chain() {
         assert_eq!(i64::from(limits[c]) - i64::from(old.worst), each[c].margin);
         assert_eq!(own.margin, each[c].margin);
         assert_eq!(1_000 - i64::from(old.worst), old.margin);
-        assert_eq!(Ok(old.margin), margin(&s, number, DEFAULT_LIMIT, &mut [0; 18]));
+        assert_eq!(Ok(500 - i64::from(old.worst)), default_margin(&s, number, &mut [0; 18]));
         assert_eq!(quick(&memory(&RADIO, chains[c]), 1), quick(&s, number));
     }
     assert_eq!((0, 968), (each[0].margin, each[1].margin));
@@ -326,7 +327,7 @@ fn conversions() {
     // 18, "exactly when the count is not 1 or the limit not 1,000"
     let one = |limit| suite(&RADIO, &[chain(limit, &[0])]);
     let two = |limit| suite(&RADIO, &[chain(limit, &[0]), chain(1_000, &[1])]);
-    for s in [one(999), one(1_001), one(0), one(4_000_000), two(1_000), two(999), largest(16, 8)] {
+    for s in [one(999), one(1_001), one(500), one(0), one(4_000_000), two(1_000), two(999), largest(16, 8)] {
         assert_eq!((Ok(s), Err(alone(18))), (to_second(&s), to_first(&s)));
     }
     // "A conversion judges the fields and 18 only": H, J and lateness are no matter.

@@ -334,7 +334,7 @@ pub extern "C" fn bellkettle_margin(
     )
 }
 
-// "The call without a limit uses 1,000 ticks."
+// "The margin call without a limit".
 #[no_mangle]
 pub extern "C" fn bellkettle_default_margin(
     sheet: &[u8],

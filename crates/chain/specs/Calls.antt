@@ -16,6 +16,7 @@ use Rattle.answers.specs.declared.Refusal.{Refusal}
 use Rattle.answers.specs.declared.Refusal.the-variants.{Number}
 use Rattle.answers.specs.Answers.{Answer, given, refused, Judgement, when, after, also, refusal}
 use Rattle.sheet.specs.Calls.{places, judgeOf}
+use Rattle.sheet.specs.Conversions.{oldLimit}
 use Rattle.sheet.specs.Tasks.{tasksOf, chainCount, lacks, chainOf, limitOf, firstOf, restOf}
 use Rattle.schedule.specs.Calls.{sizesOf, responsesOf}
 use Rattle.schedule.specs.declared.answer.Totals.{Totals}
@@ -69,17 +70,15 @@ delayOf s number release room =
     (after (responsesOf s room) λ totals.
     given (delayAt (tasksOf s) (chainOf s number) release)))
 
--- "margin limit 0 to 4,000,000"; "The call without a limit uses 1,000 ticks."
+-- "margin limit 0 to 4,000,000"
 abbrev pub mostLimit : ℕ
 mostLimit = 4000000
 
+-- "The margin call without a limit should use 500 ticks." (document 02, P7)
 abbrev pub defaultLimit : ℕ
-defaultLimit = 1000
+defaultLimit = 500
 
--- The report prints "the margin under its limit"; an old sheet has none, and there it is 1,000.
-abbrev pub oldLimit : ℕ
-oldLimit = 1000
-
+-- The report prints "the margin under its limit" (document 02, P3); an old sheet has none, and its report goes by the limit that a conversion gives it.
 abbrev pub reportLimit : Sheet → ℕ → ℕ
 reportLimit s number = cond (eqb (s .edition) 1) oldLimit (limitOf s number)
 

@@ -19,4 +19,5 @@ pub mod FigureLaws
 -- The results: what an answer says of every schedule, and one answer for each input.
 pub mod Results
 pub mod QuickResults
+pub mod Converted
 pub mod Unique

@@ -20,7 +20,7 @@ DelayPromise s number release old r table = AnswersAs (delayOf s number release 
 abbrev pub MarginPromise : Sheet → ℕ → ℕ → List ℕ → Margin → List ℕ → Type 0
 MarginPromise s number limit old r table = AnswersAs (marginOf s number limit (length old)) s old (toldMargin r) table
 
--- "The call without a limit uses 1,000 ticks."
+-- "The margin call without a limit" (document 02, P7).
 abbrev pub DefaultMarginPromise : Sheet → ℕ → List ℕ → Margin → List ℕ → Type 0
 DefaultMarginPromise s number old r table = MarginPromise s number defaultLimit old r table
 

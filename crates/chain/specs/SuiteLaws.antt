@@ -7,12 +7,13 @@ use lib.Dec.{eqb}
 use borrow.Author.Tests.{le-ltb}
 use Rattle.answers.specs.Answers.{fine}
 use Rattle.sheet.specs.declared.Sheet.{Sheet}
+use Rattle.sheet.specs.Conversions.{oldLimit}
 use Rattle.sheet.specs.Fields.{Kind, old, new, kindOf, chains, value}
 use Rattle.sheet.specs.EachLaws.{If}
 use Rattle.sheet.specs.Sound.{Sound}
 use Rattle.sheet.specs.Tasks.{chainCount, lacks, limitOf}
 use Rattle.sheet.specs.TaskLaws.{chain-count, chain-place}
-use Rattle.chain.specs.Calls.{mostLimit, oldLimit, reportLimit}
+use Rattle.chain.specs.Calls.{mostLimit, reportLimit}
 
 -- A number from 1 to the count is that of a chain.
 pub number-known : (s : Sheet) (number : ℕ) → 1 ≤ number → number ≤ chainCount s → lacks s number ≡ fine

@@ -36,10 +36,8 @@ ghost use Rattle.chain.specs.Conditions.{mostPeriod, mostWait, mostFigur
 // "margin limit 0 to 4,000,000"
 const MOST_LIMIT: u32 = 4000000;
 
-const DEFAULT_LIMIT: u32 = 1000;
-
-// The limit of an old sheet's chain in a report.
-const OLD_LIMIT: u32 = 1000;
+// "The margin call without a limit should use 500 ticks." (document 02, P7)
+const DEFAULT_LIMIT: u32 = 500;
 
 // Of each task i four numbers, from place 4 · i on: its period, its rank, where its row starts and how many jobs it has.
 fn plan_of(s: Sheet, h: u32) -> [u32; 64]
@@ -275,7 +273,7 @@ fn report_limit(s: Sheet, number: u8) -> u32
     ensures { λ r. ⌜ (r ≡ reportLimit s number) × (r ≤ mostLimit) ⌝ }
 {
     if s.edition == 1 {
-        return OLD_LIMIT;
+        return sheet::OLD_LIMIT;
     }
     chain_of(s, number).limit
 }
@@ -515,7 +513,7 @@ pub fn margin(s: Sheet, number: u8, limit: u32, table: &mut [u32]) -> Margin
     Margin::Ticks(less_of(limit, summary.worst))
 }
 
-// "The call without a limit uses 1,000 ticks."
+// "The margin call without a limit".
 pub fn default_margin(s: Sheet, number: u8, table: &mut [u32]) -> Margin
     ensures { λ r. ⌜ DefaultMarginPromise s number (now (table .entry)) r (now (table .exit)) ⌝ }
 {

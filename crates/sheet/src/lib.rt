@@ -86,8 +86,8 @@ const HEAD_BITS: u32 = MARKED_BITS + COUNT_BITS;
 
 const TASK_BITS: u32 = PERIOD_BITS + BUDGET_BITS + RANK_BITS;
 
-// The limit of an old sheet's chain.
-const OLD_LIMIT: u32 = 1000;
+// The limit of an old sheet's chain, in a conversion and in a report.
+pub const OLD_LIMIT: u32 = 1000;
 
 fn wide(x: u8) -> u32
     ensures { λ r. ⌜ (r ≡ x) × (r < 256) ⌝ }
@@ -756,7 +756,7 @@ fn under(s: Sheet, limit: u32) -> [Chain; 8]
     chains
 }
 
-// The sheet in the second edition: an old one's chain is its only one, under 1,000.
+// The sheet in the second edition: an old one's chain is its only one, under the old limit.
 pub fn to_second(s: Sheet) -> Reading
     ensures { λ r. ⌜ ToSecondPromise s r ⌝ }
 {
@@ -795,7 +795,7 @@ fn goes_back(s: Sheet) -> Verdict
     Verdict::Fine
 }
 
-// The sheet as an old one, if it has one chain under 1,000.
+// The sheet as an old one, if it has one chain under the old limit.
 pub fn to_first(s: Sheet) -> Reading
     ensures { λ r. ⌜ ToFirstPromise s r ⌝ }
 {

@@ -4,8 +4,9 @@ use mathlib.Core.Bool.{cond}
 use native.Mathlib.Omega.{arith}
 use borrow.Author.Tests.{eq-eqb, ne-eqb}
 use Rattle.sheet.specs.declared.Chain.{Chain}
+use Rattle.sheet.specs.Conversions.{oldLimit}
 use Rattle.sheet.specs.Tasks.{limitOf}
-use Rattle.chain.specs.Calls.{oldLimit, reportLimit}
+use Rattle.chain.specs.Calls.{reportLimit}
 use Rattle.chain.specs.SuiteLaws.{report-most}
 use borrow.Author.Needs.{needs}
 use Rattle.chain.proofs.report_limit.Statement.{statement}

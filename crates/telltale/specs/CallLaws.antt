@@ -1,13 +1,14 @@
 -- The laws of a call, as the proofs of the code and of runs cite them.
 use mathlib.Core.Path.{_≡_, sym}
-use mathlib.Core.Bool.{true, false}
+use mathlib.Core.Bool.{true, false, cond}
 use mathlib.Core.List.{[]}
 use Prim.Native.Nat.{ℕ, _+_, _-_, _%_, _^_, _≤_, _<_}
 use native.Mathlib.Omega.{arith}
 use borrow.Author.Tests.{le-leb, lt-leb}
 use Rattle.answers.specs.Answers.{given, refused}
+use Rattle.answers.specs.NumberLaws.{Numbered, given-numbered, when-numbered, also-numbered}
 use Rattle.telltale.specs.declared.Record.{Record}
-use Rattle.telltale.specs.Calls.{elapsed, begunOf, stampOf}
+use Rattle.telltale.specs.Calls.{elapsed, begunOf, tooLong, stampOf}
 
 -- The elapsed time is the only number below 2^32 that leads from one counter to the other.
 pub elapsed-is : (from to ticks : ℕ) → from < 2 ^ 32 → ticks < 2 ^ 32 → (ticks + from) % 2 ^ 32 ≡ to → ticks ≡ elapsed from to
@@ -40,3 +41,10 @@ module _ (r : Record) (counter : ℕ) where
   pub stamp-taken : r .underway ≡ true → elapsed (r .counter) counter < 2147483648 → stampOf r counter ≡ given (elapsed (r .counter) counter)
   unfolding stampOf
   stamp-taken h l = rw (h, lt-leb _ _ l)
+
+  -- No other number is given.
+  pub stamp-numbered : Numbered 25 26 (stampOf r counter)
+  unfolding stampOf
+  stamp-numbered =
+      also-numbered (when-numbered (cond (r .underway) false true) 25 (omega arith) (omega arith))
+      (also-numbered (when-numbered (tooLong (elapsed (r .counter) counter)) 26 (omega arith) (omega arith)) (given-numbered (elapsed (r .counter) counter)))

@@ -11,9 +11,10 @@ abbrev pub counterAt : ℕ → ℕ
 counterAt tick = tick % 2 ^ 32
 
 module _ (ts : List Task) (d : Demands) (ran : Run) (p : ℕ) (rest : List ℕ) where
-  -- One reading that the clock watches: of the job of p that begins it, stamped no later than where the path of that job ends. Others that
-  -- begin meanwhile, at any counters, are not watched.
+  -- One reading that the clock watches: of the job of p that begins it, stamped no later than where the path of that job ends. Stamps may come
+  -- early, before it begins, and other begins while it is under way, at any counters.
   pub record Reading : Type 0 where
+    pub early : List ℕ
     pub job : ℕ
     pub others : List ℕ
     pub stamped : ℕ
@@ -25,4 +26,4 @@ module _ (ts : List Task) (d : Demands) (ran : Run) (p : ℕ) (rest : List ℕ) 
   -- The calls of some readings, one after the other.
   abbrev pub watched : List Reading → List Call
   watched [] = []
-  watched (x ∷ xs) = begin (counterAt (release ts p (x .job))) ∷ (map begin (x .others) ++ (stamp (counterAt (x .stamped)) ∷ watched xs))
+  watched (x ∷ xs) = map stamp (x .early) ++ (begin (counterAt (release ts p (x .job))) ∷ (map begin (x .others) ++ (stamp (counterAt (x .stamped)) ∷ watched xs)))

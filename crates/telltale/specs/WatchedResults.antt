@@ -17,7 +17,12 @@ use Rattle.telltale.specs.CallLaws.{elapsed-apart}
 use Rattle.telltale.specs.RunResults.{after-any-run}
 use Rattle.telltale.specs.Watched.{counterAt, Reading, watched}
 
--- Begins while a reading is under way change no time.
+-- Stamps with none under way have no time,
+stamps-refused : (early : List ℕ) (cs : List Call) → times none (map stamp early ++ cs) ≡ times none cs
+stamps-refused [] cs = refl
+stamps-refused (c ∷ early) cs = stamps-refused early cs
+
+-- and begins while one is under way change none.
 begins-kept : (first : ℕ) (others : List ℕ) (cs : List Call) → times (some first) (map begin others ++ cs) ≡ times (some first) cs
 begins-kept first [] cs = refl
 begins-kept first (c ∷ others) cs = begins-kept first others cs
@@ -35,7 +40,7 @@ module _ {ts : List Task} (accepted : Accepted ts) {p : ℕ} {rest : List ℕ} (
   pub watched-times : (xs : List (Reading ts d ran p rest)) → times none (watched ts d ran p rest xs) ≡ map delayOf xs
   watched-times [] = refl
   watched-times (x ∷ xs) =
-      begins-kept (counterAt (release ts p (x .job))) (x .others) _
+      stamps-refused (x .early) _ ∙ begins-kept (counterAt (release ts p (x .job))) (x .others) _
       ∙ rw (elapsed-apart (release ts p (x .job)) (x .stamped) (x .after-release) (omega (arith, delay-most x, small)), lt-leb 2147483648 (delayOf x) (omega (arith, delay-most x, small)))
       (ap (λ l. delayOf x ∷ l) (watched-times xs))
 

@@ -3,8 +3,7 @@
 // answers and leaves is defined in specs/Calls.antt, and what a run of calls comes to in specs/Runs.antt.
 use answers::Refusal;
 ghost use mathlib.Core.Path.{_≡_};
-ghost use Prim.Native.Nat.{_+_, max, min};
-ghost use Rattle.telltale.specs.Calls.{elapsed};
+ghost use Prim.Native.Nat.{_+_, _%_, _^_, max, min};
 ghost use Rattle.telltale.specs.Promises.{FreshPromise, BeginPromise, StampPromise, ElapsedRefusalPromise};
 
 // Whether a reading is under way, its counter, the longest delay, and how many stamps were accepted.
@@ -132,9 +131,9 @@ fn ended(was: Record, counter: u32) -> Stamped
     Stamped { answer, left }
 }
 
-// The ticks from one counter to another, across the rollover.
+// The ticks that lead from one counter to another, across the rollover.
 fn ticks_between(from: u32, to: u32) -> u32
-    ensures { λ r. ⌜ r ≡ elapsed from to ⌝ }
+    ensures { λ r. ⌜ (r + from) % 2 ^ 32 ≡ to ⌝ }
 {
     std::num::wrapping_sub_u32(to, from)
 }

@@ -4,6 +4,7 @@ use mathlib.Core.Bool.{true, false}
 use mathlib.Core.List.{[]}
 use Prim.Native.Nat.{ℕ, _+_, _<_, max, min}
 use borrow.Author.Tests.{not-true, not-false}
+use native.Mathlib.Omega.{arith}
 use borrow.Author.Needs.{needs}
 use Rattle.answers.specs.declared.Refusal.the-variants.{Number}
 use Rattle.answers.specs.Answers.{given, refused}
@@ -12,7 +13,7 @@ use Rattle.telltale.specs.declared.Stamped.{Stamped}
 use Rattle.telltale.specs.declared.Elapsed.the-variants.{Ticks, No}
 use Rattle.telltale.specs.Calls.{elapsed, stampOf, recordAfter, toldElapsed}
 use Rattle.telltale.specs.Promises.{StampPromise}
-use Rattle.telltale.specs.CallLaws.{stamp-none, stamp-long, stamp-taken}
+use Rattle.telltale.specs.CallLaws.{elapsed-is, stamp-none, stamp-long, stamp-taken}
 use Rattle.telltale.proofs.ended.Statement.{statement}
 use Rattle.telltale.proofs.ended.Tie as tie
 
@@ -41,7 +42,7 @@ returns-2 : tie.Need-returns-2
 returns-2 c =
     let test = c .before in
     let ticks = test .before in
-    refused-end _ _ 26 _ (c .refused2 .ensures) (stamp-long _ _ (not-false _ (ticks .before .if1 .left)) (rw (ticks .ticks-between .ensures) at (test .if2 .taken)))
+    refused-end _ _ 26 _ (c .refused2 .ensures) (stamp-long _ _ (not-false _ (ticks .before .if1 .left)) (rw (elapsed-is _ _ _ (omega arith) (omega arith) (ticks .ticks-between .ensures)) at (test .if2 .taken)))
 
 greater-requires : tie.Need-greater-requires
 greater-requires c κs = search needs
@@ -53,7 +54,7 @@ returns-3 : tie.Need-returns-3
 returns-3 c =
     let test = c .before .before in
     let ticks = test .before in
-    let is = ticks .ticks-between .ensures in
+    let is = elapsed-is _ _ _ (omega arith) (omega arith) (ticks .ticks-between .ensures) in
     taken-end _ _ is (c .before .greater .ensures) (c .counted .ensures) (not-false _ (ticks .before .if1 .left)) (rw is at (test .if2 .left))
 
 pub ended-spec : {M : Type 1} → statement M

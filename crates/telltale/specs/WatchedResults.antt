@@ -1,17 +1,16 @@
 -- What the tell-tale says of the sheet: while the clock keeps its sheet, the longest that it shows is within the sampling figure.
-use mathlib.Core.Path.{_≡_, refl, subst, _∙_, ap}
+use mathlib.Core.Path.{_≡_, refl, _∙_, ap}
 use mathlib.Core.List.{List, [], _∷_, _++_, map}
 use mathlib.Core.Option.{some, none}
-use Prim.Native.Nat.{ℕ, _+_, _-_, _≤_, _<_, min}
+use Prim.Native.Nat.{ℕ, _+_, _-_, _≤_, _<_}
 use native.Mathlib.Omega.{arith}
-use lib.ListN.{length}
 use borrow.Author.Tests.{lt-leb}
 use Rattle.theory.specs.declared.Task.{Task}
 use Rattle.theory.specs.Model.Schedule.{release, Demands, Within, Run, Schedule}
 use Rattle.theory.specs.Model.Responses.{response, Accepted}
 use Rattle.theory.specs.Model.Chain.{Chain, sampling}
 use Rattle.theory.specs.Results.Demand3.{no-schedule-exceeds}
-use Rattle.telltale.specs.Calls.{fresh, elapsed}
+use Rattle.telltale.specs.Calls.{fresh}
 use Rattle.telltale.specs.Runs.{Call, begin, stamp, run, times, greatest}
 use Rattle.telltale.specs.CallLaws.{elapsed-apart}
 use Rattle.telltale.specs.RunResults.{after-any-run}

@@ -1,6 +1,5 @@
--- `telltale::after_begin` meets its contract: a walk of its MIR, by hand. The record stands in a local, which is lent to `begin` for a lifetime that is made for the call, and comes back at the last value.
--- All that the proof knows of `begin` is that it meets its contract.
--- Assumes nothing.
+-- The record stands in a local, which is lent to `begin` for a lifetime made for the call and comes back at its last value: a walk of the code
+-- by hand, since lending a struct is not covered. All that it knows of `begin` is its contract.
 use mathlib.Core.Path.{refl, sym, ap, subst}
 use Prim.Native.Nat.{ℕ, _<_, _^_}
 use mathlib.Core.List.{[], _∷_, List}

@@ -1,6 +1,5 @@
--- `telltale::after_stamp` meets its contract: a walk of its MIR, by hand. The record stands in a local, which is lent to `stamp` for a lifetime that is made for the call, and comes back at the last value.
--- All that the proof knows of `stamp` is that it meets its contract.
--- Assumes nothing.
+-- The record stands in a local, which is lent to `stamp` for a lifetime made for the call and comes back at its last value, beside the answer: a
+-- walk of the code by hand, since lending a struct is not covered. All that it knows of `stamp` is its contract.
 use mathlib.Core.Path.{refl, ap, subst}
 use Prim.Native.Nat.{ℕ, _<_, _^_}
 use mathlib.Core.List.{[], _∷_, List}

@@ -1,6 +1,5 @@
--- `telltale::begin` meets its contract: a walk of its MIR, by hand. The borrow is opened, the record is copied out and handed to `begun`, the record that comes back is stored whole, and the borrow is closed at it.
--- All that the proof knows of `begun` is that it meets its contract.
--- Assumes nothing.
+-- The lent record is copied out and handed to `begun`, and what comes back is stored whole: a walk of the code by hand, since a reference to a
+-- struct is not covered. All that it knows of `begun` is its contract.
 use mathlib.Core.Path.{refl}
 use Prim.Native.Nat.{ℕ, _<_, _^_}
 use mathlib.Core.List.{[], _∷_, List}

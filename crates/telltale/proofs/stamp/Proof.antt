@@ -1,6 +1,5 @@
--- `telltale::stamp` meets its contract: a walk of its MIR, by hand. The borrow is opened, the record is copied out and handed to `ended`; of what comes back the record is stored whole and the answer is returned, and the borrow is closed.
--- All that the proof knows of `ended` is that it meets its contract.
--- Assumes nothing.
+-- The lent record is copied out and handed to `ended`; of what comes back the record is stored whole and the answer returned: a walk of the code
+-- by hand, since a reference to a struct is not covered. All that it knows of `ended` is its contract.
 use mathlib.Core.Path.{refl, ap}
 use Prim.Native.Nat.{ℕ, _<_, _^_}
 use mathlib.Core.List.{[], _∷_, List}

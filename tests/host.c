@@ -1,7 +1,7 @@
 /*
  * A program in C over the library: every function of include/bellkettle.h on the sheets of document 01, on each refusal that can
  * come of it, at every place where a field can be bad, and on lent memory that is just large enough, too short by one, or empty.
- * Figures are documents 01's and 02's where they have the sheet.
+ * Figures are documents 01's and 02's where they have the sheet. The tell-tale's calls are made on records of this program.
  */
 #include "bellkettle.h"
 

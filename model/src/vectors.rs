@@ -1,7 +1,7 @@
 //! Requests that are always made of the probe: document 01's sheets, both ends of each range, every place where bytes may end, each
 //! refusal alone, at the first and at the last place where it can occur, and beside another, tables and buffers that are too short by
 //! one, exact and longer, sheets for which only the quick bound without a table is answered, every chain by its number and numbers of
-//! none, conversions, and every call on every sample and on every bad field in memory.
+//! none, conversions, runs of the tell-tale's calls, and every call on every sample and on every bad field in memory.
 
 use crate::probe::{run_bytes, Call, Handed, Lent, Request};
 use crate::schedule::{responses, sizes};

@@ -844,7 +844,7 @@ static void telltale_by_chance(void) {
     uint64_t first = 0, longest = 0, accepted = 0;
     bool begun = false;
     uint32_t chance = 13, counter = 0;
-    for (unsigned i = 0; i < 300000; i++) {
+    for (unsigned i = 0; i < 400000; i++) {
         chance = chance * 1664525u + 1013904223u;
         counter += chance >> 28 == 0 ? HALF - 2 + (chance >> 8) % 4 : (chance >> 8) % 1000;
         if (chance >> 27 & 1) {

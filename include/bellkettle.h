@@ -75,6 +75,7 @@
 #ifndef BELLKETTLE_H
 #define BELLKETTLE_H
 
+#include <stdbool.h>
 #include <stddef.h>
 #include <stdint.h>
 
@@ -168,6 +169,35 @@ uint8_t bellkettle_write(uint8_t edition,
                          const uint8_t *lengths, size_t lengths_length,
                          const uint8_t *entries, size_t entries_length,
                          uint8_t *out, size_t out_length,
+                         int64_t *values, size_t values_length);
+
+/*
+ * The tell-tale on the clock itself
+ *
+ * The unit remembers the longest delay that it has seen in one small record, which is updated where it stands. A fresh record is all zeros:
+ * struct bellkettle_telltale kept = {0}. Call bellkettle_begin at the release of the job that samples a reading, and bellkettle_stamp when
+ * the job that ends its path has finished, each with the 32-bit counter of that tick; the counter may roll over in between. While one reading
+ * is under way no other is watched. So long as the clock keeps its sheet, longest is never above the chain's sampling figure, values[3] of
+ * bellkettle_figures.
+ *
+ * Every content of a record is taken, with underway false or true and nothing else in its byte. Calls on one record come one after the other;
+ * an interrupt that stamps must not come into a begin. Neither call loops.
+ */
+struct bellkettle_telltale {
+    bool underway;    /* whether a reading is under way */
+    uint32_t counter; /* at which it began; 0 after an accepted stamp */
+    uint32_t longest; /* the greatest elapsed time of an accepted stamp, 0 if there was none */
+    uint16_t count;   /* how many stamps were accepted; stays at 65,535 once there */
+};
+
+/* A reading begins at this counter. While one is under way nothing changes. */
+void bellkettle_begin(struct bellkettle_telltale *kept, uint32_t counter);
+
+/*
+ * The reading under way ends at this counter. Returns 0, and values is the elapsed ticks; or 25 where none is under way, or 26 where
+ * 2,147,483,648 ticks or more have elapsed, and leaves the record and values as they were. After 26 the reading is still under way.
+ */
+uint8_t bellkettle_stamp(struct bellkettle_telltale *kept, uint32_t counter,
                          int64_t *values, size_t values_length);
 
 #ifdef __cplusplus

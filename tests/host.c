@@ -1,11 +1,13 @@
 /*
  * A program in C over the library: every function of include/bellkettle.h on the sheets of document 01, on each refusal that can
  * come of it, at every place where a field can be bad, and on lent memory that is just large enough, too short by one, or empty.
- * Figures are documents 01's and 02's where they have the sheet.
+ * Figures are documents 01's and 02's where they have the sheet. The tell-tale's calls are made on records of this program.
  */
 #include "bellkettle.h"
 
 #include <inttypes.h>
+#include <stdbool.h>
+#include <stddef.h>
 #include <stdio.h>
 #include <stdlib.h>
 #include <string.h>
@@ -778,6 +780,94 @@ static void short_memory(void) {
     expect("eighteen entries", "one more", entries[18], MARK_BYTE);
 }
 
+/* The tell-tale: a record of this layout, lent where it stands. */
+_Static_assert(offsetof(struct bellkettle_telltale, underway) == 0, "underway");
+_Static_assert(offsetof(struct bellkettle_telltale, counter) == 4, "counter");
+_Static_assert(offsetof(struct bellkettle_telltale, longest) == 8, "longest");
+_Static_assert(offsetof(struct bellkettle_telltale, count) == 12, "count");
+_Static_assert(sizeof(struct bellkettle_telltale) == 16, "size");
+
+#define HALF 2147483648u
+
+static void expect_record(const char *name, const struct bellkettle_telltale *kept, bool underway, uint32_t counter, uint32_t longest, uint16_t count) {
+    expect(name, "whether a reading is under way", kept->underway, underway);
+    expect(name, "its counter", kept->counter, counter);
+    expect(name, "the longest", kept->longest, longest);
+    expect(name, "the count", kept->count, count);
+}
+
+/* A stamp that is accepted gives its ticks and nothing more; one that is refused gives nothing. */
+static void expect_stamp(const char *name, struct bellkettle_telltale *kept, uint32_t counter, uint8_t number, uint32_t ticks) {
+    mark();
+    expect(name, "the number returned", bellkettle_stamp(kept, counter, values, VALUES), number);
+    if (number == 0) {
+        expect(name, "the ticks", values[0], ticks);
+    }
+    expect_marked(name, number == 0, 0);
+}
+
+static void telltale(void) {
+    struct bellkettle_telltale kept = {0};
+    expect_stamp("a fresh record", &kept, 5, 25, 0);
+    expect_record("a fresh record", &kept, false, 0, 0, 0);
+    bellkettle_begin(&kept, 10);
+    bellkettle_begin(&kept, 30);
+    expect_record("the older counter", &kept, true, 10, 0, 0);
+    expect_stamp("the older counter", &kept, 45, 0, 35);
+    expect_stamp("a second stamp", &kept, 50, 25, 0);
+    expect_record("a second stamp", &kept, false, 0, 35, 1);
+    bellkettle_begin(&kept, 4294967290u);
+    expect_stamp("the rollover", &kept, 4, 0, 10);
+    expect_record("the rollover", &kept, false, 0, 35, 2);
+    bellkettle_begin(&kept, 5);
+    expect_stamp("half the range", &kept, HALF + 5, 26, 0);
+    expect_record("half the range", &kept, true, 5, 35, 2);
+    expect_stamp("a tick less", &kept, HALF + 4, 0, HALF - 1);
+    expect_record("a tick less", &kept, false, 0, HALF - 1, 3);
+    expect("no place for the ticks", "the number returned", bellkettle_stamp(&kept, 0, NULL, 0), 25);
+
+    /* Records that no run of calls leaves are answered too. */
+    struct bellkettle_telltale other = {false, 7, 9, 65534};
+    expect_stamp("none under way", &other, 8, 25, 0);
+    expect_record("none under way", &other, false, 7, 9, 65534);
+    bellkettle_begin(&other, 20);
+    expect("no place for the ticks", "the number returned", bellkettle_stamp(&other, 22, NULL, 0), 0);
+    expect_record("the count's last", &other, false, 0, 9, 65535);
+    bellkettle_begin(&other, 20);
+    expect_stamp("the count that stays", &other, 30, 0, 10);
+    expect_record("the count that stays", &other, false, 0, 10, 65535);
+}
+
+/* A long run by chance, beside what is worked out from the first begin since the last accepted stamp. */
+static void telltale_by_chance(void) {
+    struct bellkettle_telltale kept = {0};
+    uint64_t first = 0, longest = 0, accepted = 0;
+    bool begun = false;
+    uint32_t chance = 13, counter = 0;
+    for (unsigned i = 0; i < 400000; i++) {
+        chance = chance * 1664525u + 1013904223u;
+        counter += chance >> 28 == 0 ? HALF - 2 + (chance >> 8) % 4 : (chance >> 8) % 1000;
+        if (chance >> 27 & 1) {
+            bellkettle_begin(&kept, counter);
+            first = begun ? first : counter;
+            begun = true;
+        } else {
+            uint64_t ticks = first <= counter ? counter - first : (UINT64_C(1) << 32) - first + counter;
+            uint8_t number = !begun ? 25 : ticks >= HALF ? 26 : 0;
+            int64_t given = -1;
+            expect("by chance", "the number returned", bellkettle_stamp(&kept, counter, &given, 1), number);
+            expect("by chance", "the ticks", given, number == 0 ? (int64_t)ticks : -1);
+            if (number == 0) {
+                longest = longest < ticks ? ticks : longest;
+                accepted++;
+                begun = false;
+            }
+        }
+        expect_record("by chance", &kept, begun, begun ? (uint32_t)first : 0, (uint32_t)longest, (uint16_t)(accepted < 65535 ? accepted : 65535));
+    }
+    expect("by chance", "more stamps than the count holds", accepted > 65535, 1);
+}
+
 int main(void) {
     document_one();
     document_two_and_three();
@@ -797,6 +887,8 @@ int main(void) {
     margin_below_zero();
     odd_periods();
     short_memory();
+    telltale();
+    telltale_by_chance();
     printf("host: %u checks\n", checks);
     return 0;
 }

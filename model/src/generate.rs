@@ -1,11 +1,11 @@
 //! Sheets and requests by chance: taken and late, at every limit and past it, damaged in a field or in the bytes.
 
-use crate::probe::{Call, Handed, Lent, Request, CALLS};
+use crate::probe::{run_bytes, Call, Handed, Lent, Request, CALLS};
 use crate::random::Random;
 use crate::recurrence::response;
 use crate::schedule::sizes;
 use crate::sheet::{chain as limited, marked_bits, memory, numbered, packed, suite, to_second, unjudged, Chain, Memory, Task, OLD_LIMIT};
-use crate::{arith, chain};
+use crate::{arith, chain, telltale};
 
 /// Ticks with many divisors, from which periods are taken. The model goes tick by tick, so the last are rare.
 const SMALL: [u32; 6] = [6, 12, 24, 36, 48, 60];
@@ -397,6 +397,11 @@ fn of_bits(r: &mut Random, bytes: u32) -> [u32; 3] {
     [at, width, r.any_size()]
 }
 
+/// Mostly none, and now and then as many as the count has room for, or nearly.
+fn readings_before(r: &mut Random) -> u32 {
+    if r.one_in(100) { 65_536 - r.between(0, 9) } else { r.between(0, 3) }
+}
+
 pub fn request(r: &mut Random) -> Request {
     let call = r.pick(&CALLS);
     let size = r.between(0, 40);
@@ -407,6 +412,7 @@ pub fn request(r: &mut Random) -> Request {
         Call::Put => Request { numbers: of_bits(r, size), lent: Lent::Bytes(r.bytes(size)), ..plain },
         Call::Read => Request { sheet: Handed::Bytes(handed_as_bytes(r)), ..plain },
         Call::Greatest => Request { lent: table(r, None), ..plain },
+        Call::Telltale => Request { numbers: [readings_before(r), 0, 0], sheet: Handed::Bytes(run_bytes(&telltale::calls(r))), ..plain },
         _ => of_sheet(r, call),
     }
 }

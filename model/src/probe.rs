@@ -3,6 +3,7 @@
 use crate::recurrence::quick;
 use crate::schedule::Worked;
 use crate::sheet::{judge, numbered, read, to_first, to_second, write, Chain, Memory};
+use crate::telltale::{self, History};
 use crate::{arith, bits, chain, schedule, Refusal};
 use std::fmt;
 use std::io::{Read as _, Write as _};
@@ -33,13 +34,14 @@ pub enum Call {
     ToSecond,
     ToFirst,
     Numbered,
+    Telltale,
 }
 
 use Call::*;
 
-pub const CALLS: [Call; 22] = [
+pub const CALLS: [Call; 23] = [
     Gcd, Lcm, Up, Magnitude, Number, Put, Read, Greatest, Judge, Write, Sizes, Responses, TaskResponses, Delay, Margin, DefaultMargin,
-    Figures, QuickBound, Suite, ToSecond, ToFirst, Numbered,
+    Figures, QuickBound, Suite, ToSecond, ToFirst, Numbered, Telltale,
 ];
 
 impl Call {
@@ -47,7 +49,7 @@ impl Call {
     pub fn refusals(self) -> Vec<u8> {
         let fields = (1..=9).chain([13, 16, 17]);
         match self {
-            Gcd | Lcm | Up | Magnitude | Number | Put | Greatest => vec![],
+            Gcd | Lcm | Up | Magnitude | Number | Put | Greatest | Telltale => vec![],
             Read | Judge | ToSecond | Numbered => fields.collect(),
             ToFirst => fields.chain([18]).collect(),
             Write => fields.chain([14]).collect(),
@@ -88,7 +90,8 @@ pub enum Lent {
     Table { room: usize, words: Vec<u32> },
 }
 
-/// Of a call on a sheet the first number is a release or a limit, and the second the number of the chain.
+/// Of a call on a sheet the first number is a release or a limit, and the second the number of the chain; of a run of the tell-tale's calls,
+/// which stands for the sheet, the first is how many readings come before it.
 #[derive(Clone)]
 pub struct Request {
     pub call: Call,
@@ -238,6 +241,34 @@ fn eight(totals: &[u32], chains: &[chain::Figures]) -> Vec<u32> {
     values
 }
 
+/// A run of the tell-tale's calls as a request has it: five bytes each, 0 for begin and 1 for stamp, and the counter.
+pub fn run_bytes(calls: &[telltale::Call]) -> Vec<u8> {
+    let bytes = |call: &telltale::Call| match *call {
+        telltale::Call::Begin(counter) => [vec![0], big_endian(&[counter])].concat(),
+        telltale::Call::Stamp(counter) => [vec![1], big_endian(&[counter])].concat(),
+    };
+    calls.iter().flat_map(bytes).collect()
+}
+
+pub fn run_calls(bytes: &[u8]) -> Vec<telltale::Call> {
+    let call = |b: &[u8]| {
+        let counter = u32::from_be_bytes(b[1..].try_into().unwrap());
+        if b[0] == 0 { telltale::Call::Begin(counter) } else { telltale::Call::Stamp(counter) }
+    };
+    bytes.chunks_exact(5).map(call).collect()
+}
+
+/// Of each call after so many readings: the number of its refusal or 0, its ticks, and the four fields of the record that it leaves.
+fn run_values(readings: u32, bytes: &[u8]) -> Vec<u32> {
+    let mut history = History::after_readings(readings);
+    let values = |call| {
+        let (number, ticks) = history.make(call).map_or_else(|r| (r.number.into(), 0), |ticks| (0, ticks));
+        let left = history.record();
+        [number, ticks, left.underway.into(), left.counter, left.longest, left.count.into()]
+    };
+    run_calls(bytes).into_iter().flat_map(values).collect()
+}
+
 fn of_sheet(call: Call, number: u32, chain: u8, s: &Memory, buffer: &mut [u8], table: &mut [u32]) -> Told {
     match call {
         Judge => judge(s).map(|_| vec![]),
@@ -271,6 +302,7 @@ fn told(q: &Request, buffer: &mut [u8], table: &mut [u32]) -> Told {
             Ok(vec![])
         }
         (Read, Handed::Bytes(bytes)) => Ok(sheet_values(&read(bytes)?)),
+        (Telltale, Handed::Bytes(bytes)) => Ok(run_values(a, bytes)),
         (Greatest, _) => Ok(vec![table.iter().copied().max().unwrap_or(0)]),
         (call, Handed::Bytes(bytes)) => of_sheet(call, a, b as u8, &read(bytes)?, buffer, table),
         (call, Handed::Memory(s)) => of_sheet(call, a, b as u8, s, buffer, table),

@@ -1,15 +1,16 @@
 //! Requests that are always made of the probe: document 01's sheets, both ends of each range, every place where bytes may end, each
 //! refusal alone, at the first and at the last place where it can occur, and beside another, tables and buffers that are too short by
 //! one, exact and longer, sheets for which only the quick bound without a table is answered, every chain by its number and numbers of
-//! none, conversions, and every call on every sample and on every bad field in memory.
+//! none, conversions, runs of the tell-tale's calls, and every call on every sample and on every bad field in memory.
 
-use crate::probe::{Call, Handed, Lent, Request};
+use crate::probe::{run_bytes, Call, Handed, Lent, Request};
 use crate::schedule::{responses, sizes};
 use crate::sheet::{chain, encoded, marked_bits, memory, packed, raw_bits, read, suite, unjudged, Chain, Memory, Task};
+use crate::telltale::{self, Call::{Begin, Stamp}};
 use Call::*;
 
 pub fn requests() -> Vec<Request> {
-    [numbers_and_bits(), readings(), sheets_in_memory(), tables(), chains(), without_a_table(), chain_numbers(), conversions(), samples()].concat()
+    [numbers_and_bits(), readings(), sheets_in_memory(), tables(), chains(), without_a_table(), chain_numbers(), conversions(), runs(), samples()].concat()
 }
 
 // Parts of requests
@@ -688,6 +689,23 @@ fn conversions() -> Vec<Request> {
     repeated.chains[1].entries[1] = 1;
     sheets.push(repeated);
     sheets.into_iter().flat_map(|s| [ToSecond, ToFirst].map(|call| request(call, [0; 3], Handed::Memory(s), nothing_lent()))).collect()
+}
+
+// Runs of the tell-tale's calls: refused on a fresh record, the older counter kept, across the rollover, on both sides of the limit, up to the
+// count that stays, and no calls
+
+fn runs() -> Vec<Request> {
+    let run = |readings, calls: &[telltale::Call]| request(Telltale, [readings, 0, 0], Handed::Bytes(run_bytes(calls)), nothing_lent());
+    let half = 1 << 31;
+    vec![
+        run(0, &[]),
+        run(0, &[Stamp(5), Begin(10), Begin(30), Stamp(45), Stamp(50), Begin(60), Stamp(62)]),
+        run(0, &[Begin(u32::MAX - 5), Stamp(4), Begin(u32::MAX), Stamp(0), Begin(0), Stamp(0)]),
+        run(0, &[Begin(5), Stamp(half + 5), Begin(half + 5), Stamp(half + 4), Stamp(half + 4)]),
+        run(0, &[Begin(half + 5), Stamp(5), Stamp(half + 4), Stamp(4), Begin(0), Stamp(u32::MAX), Stamp(3)]),
+        run(65_533, &[Begin(7), Stamp(8), Begin(8), Stamp(10), Begin(10), Stamp(9), Stamp(10), Begin(10), Stamp(11)]),
+        run(65_536, &[Stamp(0), Begin(1), Stamp(1)]),
+    ]
 }
 
 // Every call on every sample, and on sheets in memory

@@ -10,6 +10,9 @@ use Rattle.sheet.specs.declared.Sheet.{Sheet}
 use Rattle.sheet.specs.Calls.{readOf, writeOf, bufferAfter}
 use Rattle.sheet.specs.Tasks.{tasksOf}
 use Rattle.schedule.specs.Calls.{tableAfter}
+use Rattle.telltale.specs.declared.Record.{Record}
+use Rattle.telltale.specs.Calls.{stampOf, recordAfter}
+use Rattle.telltale.specs.Promises.{BeginPromise}
 use Rattle.bellkettle.specs.declared.Question.{Question}
 use Rattle.bellkettle.specs.Numbers.{numberOf, valuesOf, inNumbers, alone, countNumbers, answerTo, quickTo}
 use Rattle.bellkettle.specs.Fields.{periodsIn, budgetsIn, ranksIn, limitsIn, lengthsIn, entriesIn, spread, sheetFrom}
@@ -61,3 +64,10 @@ abbrev pub SheetWritten : ℕ → List ℕ → List ℕ → List ℕ → List �
 SheetWritten edition periods budgets ranks limits lengths entries returned old-values values old out =
     let s = sheetFrom edition periods budgets ranks limits lengths entries in
     Returned (sizeFor s (length old)) returned old-values values × (out ≡ bufferAfter (writeOf s (length old)) s old)
+
+-- The tell-tale's record, was before the call and left after it.
+abbrev pub RecordBegun : Record → ℕ → Record → Type 0
+RecordBegun was counter left = BeginPromise was counter left
+
+abbrev pub RecordStamped : Record → ℕ → ℕ → List ℤ → List ℤ → Record → Type 0
+RecordStamped was counter returned old values left = Returned (inNumbers alone (stampOf was counter)) returned old values × (left ≡ recordAfter (stampOf was counter) was)

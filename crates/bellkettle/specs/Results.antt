@@ -13,6 +13,9 @@ use Rattle.schedule.specs.NumberLaws.{responses-numbered}
 use Rattle.recurrence.specs.NumberLaws.{quick-numbered}
 use Rattle.chain.specs.Calls.{defaultLimit}
 use Rattle.chain.specs.NumberLaws.{delay-numbered, margin-numbered, figures-numbered}
+use Rattle.telltale.specs.declared.Record.{Record}
+use Rattle.telltale.specs.Calls.{stampOf}
+use Rattle.telltale.specs.CallLaws.{stamp-numbered}
 use Rattle.bellkettle.specs.declared.Question.{Question}
 use Rattle.bellkettle.specs.declared.Question.the-variants.{Responses, Delay, Margin, DefaultMargin, Figures}
 use Rattle.bellkettle.specs.Numbers.{numberOf, inNumbers, alone, signed, totalsNumbers, summaryNumbers, boundsNumbers, countNumbers, answerTo, quickTo}
@@ -23,11 +26,11 @@ pub record ZeroWhenGiven (answer : Answer (List ℤ)) : Type 0 where
   pub zero-given : numberOf answer ≡ 0 → (values : List ℤ) × (answer ≡ given values)
   pub given-zero : (values : List ℤ) → answer ≡ given values → numberOf answer ≡ 0
 
-numbered-given : {answer : Answer (List ℤ)} → Numbered 1 17 answer → numberOf answer ≡ 0 → (values : List ℤ) × (answer ≡ given values)
+numbered-given : {answer : Answer (List ℤ)} {high : ℕ} → Numbered 1 high answer → numberOf answer ≡ 0 → (values : List ℤ) × (answer ≡ given values)
 numbered-given {answer = given values} n e = (values, refl)
 numbered-given {answer = refused number values} n e = absurd (omega (arith, n .least refl, e))
 
-numbered-zero : {answer : Answer (List ℤ)} → Numbered 1 17 answer → ZeroWhenGiven answer
+numbered-zero : {answer : Answer (List ℤ)} {high : ℕ} → Numbered 1 high answer → ZeroWhenGiven answer
 numbered-zero n = record { zero-given = numbered-given n; given-zero = λ values e. ap numberOf e }
 
 -- An answer keeps its refusals when it is told in numbers.
@@ -43,18 +46,21 @@ answer-numbered (Figures number) room s = told-numbered summaryNumbers (figures-
 
 pub asked-zero : (question : Question) (bytes : List ℕ) (room : ℕ) → ZeroWhenGiven (after (readOf bytes) (answerTo question room))
 asked-zero question bytes room =
-    numbered-zero
+    numbered-zero {high = 17}
     (after-numbered (numbered-wider (read-numbered bytes) (omega arith) (omega arith))
     (λ s. numbered-wider (answer-numbered question room s) (omega arith) (omega arith)))
 
 pub quick-zero : (bytes : List ℕ) (number : ℕ) → ZeroWhenGiven (quickIn bytes number)
 quick-zero bytes number =
-    numbered-zero
+    numbered-zero {high = 17}
     (after-numbered {next = quickTo number} (numbered-wider (read-numbered bytes) (omega arith) (omega arith))
     (λ s. numbered-wider (told-numbered boundsNumbers (quick-numbered s number)) (omega arith) (omega arith)))
 
 pub read-zero : (bytes : List ℕ) → ZeroWhenGiven (countsIn bytes)
-read-zero bytes = numbered-zero (told-numbered countNumbers (numbered-wider (read-numbered bytes) (omega arith) (omega arith)))
+read-zero bytes = numbered-zero {high = 17} (told-numbered countNumbers (numbered-wider (read-numbered bytes) (omega arith) (omega arith)))
 
 pub write-zero : (s : Sheet) (room : ℕ) → ZeroWhenGiven (sizeFor s room)
-write-zero s room = numbered-zero (told-numbered alone (numbered-wider (write-numbered s room) (omega arith) (omega arith)))
+write-zero s room = numbered-zero {high = 17} (told-numbered alone (numbered-wider (write-numbered s room) (omega arith) (omega arith)))
+
+pub stamp-zero : (was : Record) (counter : ℕ) → ZeroWhenGiven (inNumbers alone (stampOf was counter))
+stamp-zero was counter = numbered-zero {high = 26} (told-numbered alone (numbered-wider (stamp-numbered was counter) (omega arith) (omega arith)))

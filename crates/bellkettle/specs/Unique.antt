@@ -3,8 +3,9 @@ use mathlib.Core.Path.{_≡_, sym, _∙_}
 use mathlib.Core.List.{List}
 use Prim.Native.Nat.{ℕ}
 use lib.IntN.{ℤ}
+use Rattle.telltale.specs.declared.Record.{Record}
 use Rattle.bellkettle.specs.declared.Question.{Question}
-use Rattle.bellkettle.specs.Promises.{SheetAsked, QuickAsked, SheetRead, SheetWritten}
+use Rattle.bellkettle.specs.Promises.{SheetAsked, QuickAsked, SheetRead, SheetWritten, RecordBegun, RecordStamped}
 
 -- Two ends that meet a call's promise are equal: the returned numbers x and y, the values v and w, what is left in the other slices.
 
@@ -37,3 +38,12 @@ pub write-unique : (edition : ℕ) (periods budgets ranks limits lengths entries
     → SheetWritten edition periods budgets ranks limits lengths entries x values v out t → SheetWritten edition periods budgets ranks limits lengths entries y values w out u
     → ((x ≡ y) × (v ≡ w)) × (t ≡ u)
 write-unique edition periods budgets ranks limits lengths entries x y values v w out t u p q = ((same (p .0 .0) (q .0 .0), same (p .0 .1) (q .0 .1)), same (p .1) (q .1))
+
+-- The tell-tale's record is left as r and as s.
+
+pub begin-unique : (was : Record) (counter : ℕ) (r s : Record) → RecordBegun was counter r → RecordBegun was counter s → r ≡ s
+begin-unique was counter r s p q = same p q
+
+pub stamp-unique : (was : Record) (counter x y : ℕ) (values v w : List ℤ) (r s : Record) → RecordStamped was counter x values v r → RecordStamped was counter y values w s
+    → ((x ≡ y) × (v ≡ w)) × (r ≡ s)
+stamp-unique was counter x y values v w r s p q = ((same (p .0 .0) (q .0 .0), same (p .0 .1) (q .0 .1)), same (p .1) (q .1))

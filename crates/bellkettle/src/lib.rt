@@ -1,6 +1,6 @@
 // The library for programs in C: document 01's calls over the bytes of a sheet. Each returns the number of the refusal, or 0; what
-// else it answers goes to lent slices. No sheet, answer or struct crosses over, so nothing has to be trusted but pointers and
-// lengths. What is returned and left is defined in specs/Promises.antt; include/bellkettle.h says it to those who call.
+// else it answers goes to lent slices. No sheet and no answer crosses over, and of structs the tell-tale's record alone, so nothing has to be
+// trusted but pointers, lengths and that layout. What is returned and left is defined in specs/Promises.antt; include/bellkettle.h says it to those who call.
 use answers::Refusal;
 use answers::Verdict;
 use chain::Delay;
@@ -14,6 +14,8 @@ use schedule::Totals;
 use sheet::Chain;
 use sheet::Sheet;
 use sheet::Written;
+use telltale::Elapsed;
+use telltale::Record;
 use theory::Task;
 ghost use mathlib.Core.Path.{_≡_};
 ghost use Prim.Native.Nat.{_+_, _≤_, _<_};
@@ -30,7 +32,8 @@ ghost use Rattle.recurrence.specs.Calls.{toldQuick};
 ghost use Rattle.chain.specs.Calls.{toldDelay, toldMargin, toldFigures};
 ghost use Rattle.bellkettle.specs.Numbers.{inNumbers, alone, signed, totalsNumbers, summaryNumbers, boundsNumbers, countNumbers, answerTo};
 ghost use Rattle.bellkettle.specs.Fields.{periodsIn, budgetsIn, ranksIn, limitsIn, lengthsIn, entriesIn, spread, counted, tasksCounted, chainsCounted, taskFrom, chainFrom, sheetFrom};
-ghost use Rattle.bellkettle.specs.Promises.{SheetAsked, QuickAsked, SheetRead, SheetWritten};
+ghost use Rattle.bellkettle.specs.Promises.{Returned, SheetAsked, QuickAsked, SheetRead, SheetWritten, RecordBegun, RecordStamped};
+ghost use Rattle.telltale.specs.Calls.{toldElapsed};
 ghost use Rattle.bellkettle.specs.Replies.{mostValues, valuesTold, Tells, sizeIn};
 
 // What is asked of a sheet, or of the chain of a number.
@@ -634,4 +637,39 @@ pub extern "C" fn bellkettle_write(
     let s = sheet_from(edition, periods, budgets, ranks, limits, lengths, entries);
     let written = sheet::write(s, &mut *out);
     hand(written_reply(written), &mut *values)
+}
+
+// The tell-tale (document 02, P13). Its record is a struct of the program in C, which lends it where it stands.
+
+fn elapsed_reply(e: Elapsed) -> Reply
+    ensures { λ reply. ⌜ Tells reply (inNumbers alone (toldElapsed e)) ⌝ }
+{
+    let Elapsed::Ticks(ticks) = e else {
+        return refuse(telltale::elapsed_refusal(e));
+    };
+    alone(ticks)
+}
+
+// What a stamp answered, as the number to return and its value.
+fn tell(e: Elapsed, values: &mut [i64]) -> u8
+    ensures { λ n. ⌜ Returned (inNumbers alone (toldElapsed e)) n (now (values .entry)) (now (values .exit)) ⌝ }
+{
+    hand(elapsed_reply(e), &mut *values)
+}
+
+// A reading begins, where none is under way.
+#[no_mangle]
+pub extern "C" fn bellkettle_begin(kept: &mut Record, counter: u32)
+    ensures { λ _. ⌜ RecordBegun (now (kept .entry)) counter (now (kept .exit)) ⌝ }
+{
+    telltale::begin(kept, counter)
+}
+
+// The reading under way ends.
+#[no_mangle]
+pub extern "C" fn bellkettle_stamp(kept: &mut Record, counter: u32, values: &mut [i64]) -> u8
+    ensures { λ n. ⌜ RecordStamped (now (kept .entry)) counter n (now (values .entry)) (now (values .exit)) (now (kept .exit)) ⌝ }
+{
+    let answer = telltale::stamp(kept, counter);
+    tell(answer, values)
 }

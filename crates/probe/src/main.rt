@@ -3,6 +3,7 @@
 // held to the model; it is proved to be safe and to end.
 mod answer;
 mod request;
+mod run;
 
 use answer::accepted;
 use answer::long;
@@ -30,6 +31,8 @@ use request::Request;
 use request::fill;
 use request::request_in;
 use request::sheet_in;
+use run::put_run;
+use run::readings;
 use schedule::Responses;
 use schedule::Sizes;
 use schedule::TaskResponses;
@@ -207,6 +210,12 @@ fn of_reading(bytes: &[u8], out: &mut [u8]) -> usize {
     put_reading(out, sheet::read(bytes))
 }
 
+// A run of the tell-tale's calls, after so many readings.
+fn of_run(times: u32, calls: &[u8], out: &mut [u8]) -> usize {
+    let at = accepted(&mut *out);
+    put_run(out, at, readings(times), calls)
+}
+
 fn of_lent_bytes(lent: &mut [u8], at: u32, width: u32, value: u32, out: &mut [u8]) -> usize {
     bits::put(lent, at, width, value);
     accepted(out)
@@ -264,6 +273,7 @@ fn of_call(q: Request, sheet: &[u8], lent: &mut [u8], table: &mut [u32], out: &m
         6 => of_lent_bytes(lent, q.first, q.second, q.third, out),
         7 => of_reading(sheet, out),
         8 => one(out, arith::greatest(&*table)),
+        23 => of_run(q.first, sheet, out),
         _ => {
             if q.form == 0 {
                 return of_bytes(q, sheet, lent, table, out);

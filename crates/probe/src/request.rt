@@ -27,14 +27,14 @@ pub fn past(at: usize, by: usize) -> usize {
 }
 
 // A byte of the input, 0 past its end.
-fn byte(input: &[u8], at: usize) -> u8 {
+pub fn byte(input: &[u8], at: usize) -> u8 {
     if at < input.len() {
         return input[at];
     }
     0
 }
 
-fn word(input: &[u8], at: usize) -> u32 {
+pub fn word(input: &[u8], at: usize) -> u32 {
     let a = wide(byte(input, at)) % 256;
     let b = wide(byte(input, past(at, 1))) % 256;
     let c = wide(byte(input, past(at, 2))) % 256;

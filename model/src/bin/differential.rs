@@ -6,10 +6,11 @@
 
 use model::experiment::{experiment, experiment_with_bounds, Claim, Followed};
 use model::generate::{odd_sheet, request, sheet, some_chain};
-use model::probe::{answer, readable, words, Answer, Call, Handed, Lent, Probe, Request, CALLS};
+use model::probe::{answer, readable, run_calls, words, Answer, Call, Handed, Lent, Probe, Request, CALLS};
 use model::random::Random;
 use model::schedule::sizes;
 use model::sheet::{judge, Memory, Task};
+use model::telltale;
 use std::collections::BTreeSet;
 use std::process::exit;
 
@@ -85,6 +86,12 @@ struct Met {
     beyond: u64,
     beyond_late: u64,
     just_fit: u64,
+    /// Of the tell-tale's calls: how often 25 and 26, a time across the rollover, the greatest time, and the count that stays.
+    none_underway: u64,
+    too_long: u64,
+    rolled_over: u64,
+    greatest_time: u64,
+    full_count: u64,
 }
 
 impl Met {
@@ -98,10 +105,14 @@ impl Met {
             }
         }
         self.over += u64::from(q.call == Call::Lcm && a.values[0] == 0);
+        if let (Call::Telltale, Handed::Bytes(bytes)) = (q.call, &q.sheet) {
+            self.note_run(&run_calls(bytes), &a.values);
+        }
         if let (Call::QuickBound, Some(s)) = (q.call, q.sheet.memory()) {
             self.note_quick(&s, a);
         }
-        if let Some(s) = q.sheet.memory().filter(|s| q.call as u32 >= Call::Judge as u32 && judge(s).is_ok()) {
+        let on_a_sheet = (Call::Judge as u32..Call::Telltale as u32).contains(&(q.call as u32));
+        if let Some(s) = q.sheet.memory().filter(|s| on_a_sheet && judge(s).is_ok()) {
             self.note_sheet(q, &s, a);
         }
     }
@@ -124,6 +135,17 @@ impl Met {
             let first = z.tasks[chain[0] as usize].period;
             self.least_first += u64::from(first == 1);
             self.greatest_first += u64::from(first == 100_000);
+        }
+    }
+
+    fn note_run(&mut self, calls: &[telltale::Call], values: &[u32]) {
+        for (call, values) in calls.iter().zip(values.chunks(6)) {
+            let (number, ticks, count) = (values[0], values[1], values[5]);
+            self.none_underway += u64::from(number == 25);
+            self.too_long += u64::from(number == 26);
+            self.rolled_over += u64::from(matches!(*call, telltale::Call::Stamp(counter) if counter < ticks));
+            self.greatest_time += u64::from(ticks == 2_147_483_647);
+            self.full_count += u64::from(count == 65_535);
         }
     }
 
@@ -171,6 +193,10 @@ impl Met {
             "  without a table and beyond H or J {} answered, {} late; {} where a task just fits",
             self.beyond, self.beyond_late, self.just_fit
         );
+        println!(
+            "  tell-tale: 25 {} times, 26 {}, across the rollover {}, the greatest time {}, count 65,535 {}",
+            self.none_underway, self.too_long, self.rolled_over, self.greatest_time, self.full_count
+        );
     }
 
     /// Everything that the calls can answer, and that was not met.
@@ -201,6 +227,11 @@ impl Met {
             (self.beyond, "a bound beyond H or J"),
             (self.beyond_late, "a late task beyond H or J"),
             (self.just_fit, "a task that just fits"),
+            (self.none_underway, "a stamp refused with 25"),
+            (self.too_long, "a stamp refused with 26"),
+            (self.rolled_over, "an elapsed time across the rollover"),
+            (self.greatest_time, "the greatest elapsed time"),
+            (self.full_count, "a count of 65,535"),
         ];
         missing.extend(once.into_iter().filter(|(times, _)| *times == 0).map(|(_, what)| what.into()));
         missing

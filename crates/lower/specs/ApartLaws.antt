@@ -50,10 +50,10 @@ module _ {old new : Sheet} (below : DifferBelow old new) (ok : Sound old) (ok′
   second-chain : Chain us (firstOf one) (restOf one)
   second-chain = subst (λ c. Chain us (firstOf c) (restOf c)) (sym (below .same-chain)) (chain-known ok′ 1 (one-known ok′))
 
-  same-there : {j : ℕ} → HoldsSame old new j → (getD ts j none ≡ getD us j none)
-  same-there h =
-      ap₂ (λ T C. record { period = T; budget = C; rank = rank ts _ }) (h .same-period) (h .same-budget)
-      ∙ ap (λ r. record { period = period us _; budget = budget us _; rank = r }) (h .same-rank)
+  same-there : (j : ℕ) → HoldsSame old new j → getD ts j none ≡ getD us j none
+  same-there j h =
+      ap₂ (λ T C. record { period = T; budget = C; rank = rank ts j }) (h .same-period) (h .same-budget)
+      ∙ ap (λ r. record { period = period us j; budget = budget us j; rank = r }) (h .same-rank)
 
   module _ (place : ℕ) (on : place ≤ lastPlace old) where
     abbrev i : ℕ
@@ -74,11 +74,11 @@ module _ {old new : Sheet} (below : DifferBelow old new) (ok : Sound old) (ok′
       same = record {
         left = λ j from.
             let h = below .old-tasks j (omega (arith, from .known, tasks-length ok)) (λ under. omega (arith, under place on, from .ranked)) in
-            (omega (arith, h .on-new, tasks-length ok′), same-there h);
+            (omega (arith, h .on-new, tasks-length ok′), same-there j h);
         right = λ j from.
             let high : rank us (chainTask new place) ≤ rank us j = rw (there .1) (omega (arith, from .ranked, task-same .same-rank)) in
             let h = below .new-tasks j (omega (arith, from .known, tasks-length ok′)) (λ under. omega (arith, under place (there .0), high)) in
-            (omega (arith, h .on-old, tasks-length ok), same-there h);
+            (omega (arith, h .on-old, tasks-length ok), same-there j h);
       };
     }
 

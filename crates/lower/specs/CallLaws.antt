@@ -15,6 +15,7 @@ use Rattle.theory.specs.Model.Schedule.{period, budget, rank, Slot, idle, busy}
 use Rattle.theory.specs.Model.Responses.{hyperperiod, allJobs, idleTicks}
 use Rattle.answers.specs.declared.Refusal.{Refusal}
 use Rattle.answers.specs.Answers.{given, fine, after, refusal}
+use Rattle.answers.specs.AnswerLaws.{after-given}
 use Rattle.sheet.specs.declared.Sheet.{Sheet}
 use Rattle.sheet.specs.Sound.{Sound}
 use Rattle.sheet.specs.SoundLaws.{judged-sound}
@@ -24,7 +25,7 @@ use Rattle.sheet.specs.TaskLaws.{tasks-length, chain-count, chain-place, chain-
 use Rattle.schedule.specs.declared.answer.Size.{Size}
 use Rattle.schedule.specs.Calls.{mostJobs, sizesOf, responsesOf}
 use Rattle.schedule.specs.CallLaws.{sizes-given}
-use Rattle.schedule.specs.Results.{given-responses}
+use Rattle.schedule.specs.Results.{responses-given, given-responses}
 use Rattle.recurrence.specs.Calls.{passingGreatest, quickOf}
 use Rattle.recurrence.specs.CallLaws.{quick-fits, quick-passing-task}
 use Rattle.recurrence.specs.Results.{given-accepted}
@@ -34,8 +35,10 @@ use Rattle.lower.specs.declared.answer.Difference.{Difference}
 use Rattle.lower.specs.declared.answer.Difference.the-variants.{OldOnly, NewOnly, Period, Budget, Rank}
 use Rattle.lower.specs.declared.answer.Way.{Way}
 use Rattle.lower.specs.declared.answer.Way.the-variants.{Clear, Blocked}
+use Rattle.lower.specs.declared.answer.Which.the-variants.{Old, New}
+use Rattle.lower.specs.declared.answer.Comparison.the-variants.{Refused}
 use Rattle.lower.specs.Below.{BelowChain, HoldsSame}
-use Rattle.lower.specs.Calls.{acceptance, every, sameEntries, below, counts, differenceAt, wayAt, blocked}
+use Rattle.lower.specs.Calls.{acceptance, every, sameEntries, below, counts, differenceAt, wayAt, blocked, beside, chainsCompared, compareOf, toldComparison}
 use Rattle.lower.specs.Conditions.{ChainOn}
 
 -- ---- tests over ranges
@@ -133,7 +136,30 @@ module _ (s : Sheet) where
           ap (λ a. after a (λ totals. fine)) (quick-late-table s 1 mostJobs sized (omega (arith, z .jobs-are, z .jobs-most)) e)
           ∙ sym (ap (λ a. after a (λ bounds. fine)) e)
 
+pub accepted-sound : (s : Sheet) → acceptance s ≡ fine → Sound s
+accepted-sound s e = judged-sound s (responses-given s mostJobs (after-given (responsesOf s mostJobs) _ e .1) .judged-fine)
+
+-- ---- the judgements in their order
+
+module _ (old new : Sheet) where
+  pub compare-old : (r : Refusal) → acceptance old ≡ refusal r → compareOf old new ≡ toldComparison (Refused Old r)
+  unfolding compareOf
+  compare-old r e = ap (λ j. beside Old j (beside New (acceptance new) (chainsCompared old new))) e
+
+  pub compare-new : (r : Refusal) → acceptance old ≡ fine → acceptance new ≡ refusal r → compareOf old new ≡ toldComparison (Refused New r)
+  unfolding compareOf
+  compare-new r e q = ap₂ (λ j k. beside Old j (beside New k (chainsCompared old new))) e q
+
+  pub compare-both : acceptance old ≡ fine → acceptance new ≡ fine → compareOf old new ≡ chainsCompared old new
+  unfolding compareOf
+  compare-both e q = ap₂ (λ j k. beside Old j (beside New k (chainsCompared old new))) e q
+
 -- ---- the chain
+
+-- A chain is its first task and those that follow.
+pub chain-places : (chain : List ℕ) → 0 < length chain → suc (length (restOf chain)) ≡ length chain
+chain-places [] some = absurd (omega arith)
+chain-places (p ∷ rest) some = refl
 
 entries-equal : (xs ys : List ℕ) → length xs ≡ length ys → ((e : ℕ) → e < length xs → getD xs e 0 ≡ getD ys e 0) → xs ≡ ys
 entries-equal [] [] l h = refl

@@ -67,7 +67,7 @@ blocked (Blocked difference) = true
 -- What is found: nothing in the way; a sheet that is refused, or is not of edition 2; another chain one; or an index and what differs there.
 pub data Finding : Type 0 where
   nothing : Finding
-  refusal : Which → (number : ℕ) (values : List ℕ) → Finding
+  refusedOf : Which → (number : ℕ) (values : List ℕ) → Finding
   edition : Which → Finding
   chain : Finding
   task : (index : ℕ) → Difference → Finding
@@ -75,7 +75,7 @@ pub data Finding : Type 0 where
 -- a judgement of one of the sheets, and then the rest
 abbrev pub beside : Which → Judgement → Finding → Finding
 beside which (given u) next = next
-beside which (refused number values) next = refusal which number values
+beside which (refused number values) next = refusedOf which number values
 
 abbrev pub standing : ℕ → Way → Finding
 standing i Clear = nothing
@@ -103,7 +103,7 @@ compareOf old new = beside Old (acceptance old) (beside New (acceptance new) (ch
 -- The finding for each case of the code's enum.
 abbrev pub toldComparison : Comparison → Finding
 toldComparison Applies = nothing
-toldComparison (Refused which r) = refusal which (numberIn r) (valuesIn r)
+toldComparison (Refused which r) = refusedOf which (numberIn r) (valuesIn r)
 toldComparison (Edition which) = edition which
 toldComparison OtherChain = chain
 toldComparison (OtherTask i difference) = task i difference

@@ -38,8 +38,8 @@ use Rattle.lower.specs.declared.answer.Which.the-variants.{Old, New}
 use Rattle.lower.specs.declared.answer.Way.{Way}
 use Rattle.lower.specs.declared.answer.Way.the-variants.{Clear, Blocked}
 use Rattle.lower.specs.Below.{chainTask, lastPlace, DifferBelow}
-use Rattle.lower.specs.Calls.{acceptance, sameEntries, wayAt, blocked, Finding, nothing, refusal, edition, chain, task, beside, standing, firstBlocked, tasksCompared, compareOf}
-use Rattle.lower.specs.CallLaws.{least-none, none-least, one-known, same-entries-equal, equal-same-entries, counts-not-below, not-below-counts, clear-way, way-clear, not-blocked, way-past}
+use Rattle.lower.specs.Calls.{acceptance, sameEntries, wayAt, blocked, Finding, nothing, refusedOf, edition, chain, task, beside, standing, firstBlocked, tasksCompared, compareOf}
+use Rattle.lower.specs.CallLaws.{accepted-sound, least-none, none-least, one-known, same-entries-equal, equal-same-entries, counts-not-below, not-below-counts, clear-way, way-clear, not-blocked, way-past}
 use Rattle.lower.specs.ApartLaws.{task-same, task-apart, figures-same, first-period-same}
 
 -- ---- exactly when
@@ -55,7 +55,7 @@ pub record Comparable (old new : Sheet) : Type 0 where
 -- Whether a finding is that nothing stands in the way.
 abbrev isNothing : Finding → Bool
 isNothing nothing = true
-isNothing (refusal which number values) = false
+isNothing (refusedOf which number values) = false
 isNothing (edition which) = false
 isNothing chain = false
 isNothing (task index difference) = false
@@ -75,9 +75,6 @@ cond-nothing false f g q e = other q e
 standing-nothing : (i : ℕ) (w : Way) → standing i w ≡ nothing → w ≡ Clear
 standing-nothing i Clear e = refl
 standing-nothing i (Blocked d) e = other refl e
-
-accepted-sound : (s : Sheet) → acceptance s ≡ fine → Sound s
-accepted-sound s e = judged-sound s (responses-given s mostJobs (after-given (responsesOf s mostJobs) _ e .1) .judged-fine)
 
 module _ (old new : Sheet) where
   all-clear : tasksCompared old new ≡ nothing → (i : ℕ) → i < 16 → wayAt old new i ≡ Clear

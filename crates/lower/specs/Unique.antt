@@ -5,14 +5,14 @@ use Rattle.answers.specs.declared.Refusal.the-variants.{Number, With}
 use Rattle.sheet.specs.declared.Sheet.{Sheet}
 use Rattle.lower.specs.declared.answer.Comparison.{Comparison}
 use Rattle.lower.specs.declared.answer.Comparison.the-variants.{Applies, Refused, Edition, Chain, Task}
-use Rattle.lower.specs.Calls.{Finding, nothing, refusal, edition, chain, task, toldComparison}
+use Rattle.lower.specs.Calls.{Finding, nothing, refusedOf, edition, chain, task, toldComparison}
 use Rattle.lower.specs.Promises.{ComparePromise}
 
 -- The finding tells the case of the enum.
 abbrev caseOf : Finding → Comparison
 caseOf nothing = Applies
-caseOf (refusal which number []) = Refused which (Number number)
-caseOf (refusal which number (value ∷ values)) = Refused which (With number value)
+caseOf (refusedOf which number []) = Refused which (Number number)
+caseOf (refusedOf which number (value ∷ values)) = Refused which (With number value)
 caseOf (edition which) = Edition which
 caseOf chain = Chain
 caseOf (task index difference) = Task index difference

@@ -18,7 +18,7 @@ ghost use lib.ListN.{length};
 ghost use Rattle.answers.specs.Answers.{told};
 ghost use Rattle.sheet.specs.Sound.{Sound};
 ghost use Rattle.sheet.specs.Tasks.{tasksOf, chainAt, chainOf};
-ghost use Rattle.lower.specs.Calls.{acceptance, sameEntries, below, counts, differenceAt, wayAt, tasksCompared, chainsCompared, toldComparison};
+ghost use Rattle.lower.specs.Calls.{acceptance, sameEntries, below, counts, differenceAt, wayAt, standing, tasksCompared, chainsCompared, toldComparison};
 ghost use Rattle.lower.specs.Conditions.{ChainOn};
 ghost use Rattle.lower.specs.Promises.{ComparePromise};
 
@@ -152,6 +152,16 @@ fn way_at(old: Sheet, new: Sheet, i: u8) -> Way
     Way::Clear
 }
 
+// What index i has against it, as the answer.
+fn stands(i: u8, way: Way) -> Comparison
+    ensures { λ r. ⌜ toldComparison r ≡ standing i way ⌝ }
+{
+    match way {
+        Way::Clear => Comparison::Applies,
+        Way::Blocked(found) => Comparison::Task(i, found),
+    }
+}
+
 // The first index that stands in the way.
 fn compare_tasks(old: Sheet, new: Sheet) -> Comparison
     requires { ⌜ Sound old ⌝ }
@@ -161,9 +171,9 @@ fn compare_tasks(old: Sheet, new: Sheet) -> Comparison
     let mut i = 0u8;
     while i < 16 {
         let way = way_at(old, new, i);
-        if let Way::Blocked(found) = way {
-            return Comparison::Task(i, found);
-        }
+        let Way::Clear = way else {
+            return stands(i, way);
+        };
         i += 1;
     }
     Comparison::Applies

@@ -11,63 +11,65 @@ fn short(x: u8) -> u32 {
     x as u32
 }
 
+fn print(words: &[u8]) {
+    io::write_all(1, words);
+}
+
+fn limit_of(s: Sheet) -> u32 {
+    s.chains[0].limit
+}
+
 fn print_which(which: Which) {
     match which {
-        Which::Old => io::write_all(1, b"old"),
-        Which::New => io::write_all(1, b"new"),
+        Which::Old => print(b"old"),
+        Which::New => print(b"new"),
     }
-    ;
 }
 
 fn print_refused(which: Which, r: Refusal) {
     print_which(which);
-    io::write_all(1, b" ");
+    print(b" ");
     page::print_refusal(r);
 }
 
-// The limit of a chain is not its figures', but its margin's.
-fn print_applies(same_limit: bool) {
-    io::write_all(1, b"applies\n");
-    if same_limit {
-        io::write_all(
-            1,
+// Figures and responses do not know the limit of the chain, and its margin does.
+fn print_applies(old_limit: u32, new_limit: u32) {
+    print(b"applies\n");
+    if old_limit == new_limit {
+        print(
             b"chain one has the same worst, release, bound, margin and responses, and need not be signed again\n",
         );
     } else {
-        io::write_all(
-            1,
+        print(
             b"chain one has the same worst, release, bound and responses; its margin is under another limit\n",
         );
     }
 }
 
 fn print_edition(which: Which) {
-    io::write_all(1, b"differs edition ");
+    print(b"differs edition ");
     print_which(which);
-    io::write_all(1, b"\n");
+    print(b"\n");
 }
 
 fn print_task(i: u8, difference: Difference) {
     page::print_number(b"differs task ", short(i));
     match difference {
-        Difference::OldOnly => io::write_all(1, b" old only\n"),
-        Difference::NewOnly => io::write_all(1, b" new only\n"),
-        Difference::Period => io::write_all(1, b" period\n"),
-        Difference::Budget => io::write_all(1, b" budget\n"),
-        Difference::Rank => io::write_all(1, b" rank\n"),
+        Difference::OldOnly => print(b" old only\n"),
+        Difference::NewOnly => print(b" new only\n"),
+        Difference::Period => print(b" period\n"),
+        Difference::Budget => print(b" budget\n"),
+        Difference::Rank => print(b" rank\n"),
     }
-    ;
 }
 
 fn print_comparison(old: Sheet, new: Sheet) {
     let found = lower::compare(old, new);
     match found {
-        Comparison::Applies => print_applies(old.chains[0].limit == new.chains[0].limit),
+        Comparison::Applies => print_applies(limit_of(old), limit_of(new)),
         Comparison::Refused(which, r) => print_refused(which, r),
         Comparison::Edition(which) => print_edition(which),
-        Comparison::Chain => {
-            io::write_all(1, b"differs chain\n");
-        }
+        Comparison::Chain => print(b"differs chain\n"),
         Comparison::Task(i, difference) => print_task(i, difference),
     }
 }

@@ -1,5 +1,5 @@
 -- The answer case by case: tests over ranges, whether a sheet is accepted, and what each test says of the sheets.
-use mathlib.Core.Path.{_≡_, refl, sym, ap, ap₂, _∙_, subst}
+use mathlib.Core.Path.{_≡_, refl, sym, ap, ap₂, _∙_}
 use mathlib.Core.Bool.{Bool, true, false, not, cond, false≢true}
 use mathlib.Core.List.{List, [], _∷_}
 use Prim.Native.Nat.{ℕ, zero, suc, _≤_, _<_}
@@ -11,7 +11,7 @@ use lib.ListN.{length, getD}
 use borrow.Author.Tests.{lt-ltb, le-ltb, ltb-true, eq-eqb, eqb-true}
 use Rattle.arith.specs.Ranges.{least}
 use Rattle.arith.specs.RangeLaws.{below-suc, least-within, least-passes, least-first}
-use Rattle.theory.specs.Model.Schedule.{period, budget, rank, Slot, idle, busy}
+use Rattle.theory.specs.Model.Schedule.{none, period, budget, rank, Slot, idle, busy}
 use Rattle.theory.specs.Model.Responses.{hyperperiod, allJobs, idleTicks}
 use Rattle.answers.specs.declared.Refusal.{Refusal}
 use Rattle.answers.specs.Answers.{given, fine, after, refusal}
@@ -21,7 +21,7 @@ use Rattle.sheet.specs.Sound.{Sound}
 use Rattle.sheet.specs.SoundLaws.{judged-sound}
 use Rattle.sheet.specs.Tasks.{tasksOf, lacks, chainAt, chainOf, restOf}
 use Rattle.sheet.specs.Lateness.{lateness}
-use Rattle.sheet.specs.TaskLaws.{tasks-length, chain-count, chain-place, chain-length, entry-listed}
+use Rattle.sheet.specs.TaskLaws.{tasks-length, period-at, budget-at, rank-at, chain-count, chain-place, chain-length, entry-listed}
 use Rattle.schedule.specs.declared.answer.Size.{Size}
 use Rattle.schedule.specs.Calls.{mostJobs, sizesOf, responsesOf}
 use Rattle.schedule.specs.CallLaws.{sizes-given}
@@ -205,6 +205,26 @@ module _ (s : Sheet) (i : ℕ) where
   past-counts l = rw (le-ltb i (s .count) l)
 
 -- ---- what differs there
+
+-- Of an index that both sheets have it is told by the fields of the task in that place.
+pub difference-fields : {old new : Sheet} → Sound old → Sound new → (i : ℕ) → i < old .count → i < new .count → {b c d : Bool}
+    → eqb (getD (old .tasks) i none .period) (getD (new .tasks) i none .period) ≡ b
+    → eqb (getD (old .tasks) i none .budget) (getD (new .tasks) i none .budget) ≡ c
+    → eqb (getD (old .tasks) i none .rank) (getD (new .tasks) i none .rank) ≡ d
+    → differenceAt old new i ≡ cond b (cond c (cond d Clear (Blocked Rank)) (Blocked Budget)) (Blocked Period)
+difference-fields {old} {new} ok ok′ i l m p q r = rw (
+  lt-ltb i (old .count) l,
+  lt-ltb i (new .count) m,
+  period-at ok i l,
+  period-at ok′ i m,
+  budget-at ok i l,
+  budget-at ok′ i m,
+  rank-at ok i l,
+  rank-at ok′ i m,
+  p,
+  q,
+  r,
+)
 
 clear-next : (b : Bool) (w : Way) (d : Difference) → cond b w (Blocked d) ≡ Clear → (b ≡ true) × (w ≡ Clear)
 clear-next true w d e = (refl, e)

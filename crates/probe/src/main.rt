@@ -179,6 +179,10 @@ fn put_quick_bound(out: &mut [u8], q: QuickBound) -> usize {
     put_words(out, at, &responses)
 }
 
+fn short(x: u8) -> u32 {
+    x as u32
+}
+
 fn which_number(which: Which) -> u32 {
     match which {
         Which::Old => 0,
@@ -202,7 +206,7 @@ fn put_comparison(out: &mut [u8], found: Comparison) -> usize {
         Comparison::Applies => three(out, 0, 0, 0),
         Comparison::Edition(which) => three(out, 1, which_number(which), 0),
         Comparison::Chain => three(out, 2, 0, 0),
-        Comparison::Task(i, difference) => three(out, 3, i as u32, difference_number(difference)),
+        Comparison::Task(i, difference) => three(out, 3, short(i), difference_number(difference)),
         Comparison::Refused(which, r) => {
             let at = refused(&mut *out, r);
             put_word(out, at, which_number(which))

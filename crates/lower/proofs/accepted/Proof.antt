@@ -2,7 +2,7 @@
 use mathlib.Core.Path.{_≡_, sym, ap, _∙_}
 use Rattle.answers.specs.Answers.{given, fine, after, refusal}
 use Rattle.recurrence.specs.Calls.{quickOf, toldQuick, quickRefusal}
-use Rattle.schedule.specs.Calls.{sizesOf, toldSize, sizesRefusal}
+use Rattle.schedule.specs.Calls.{toldSize, sizesRefusal}
 use Rattle.lower.specs.Calls.{acceptance}
 use Rattle.lower.specs.CallLaws.{accept-sizes, accept-late}
 use borrow.Author.Needs.{needs}

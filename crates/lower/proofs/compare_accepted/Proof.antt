@@ -1,8 +1,7 @@
 -- The judgements are the definition's, in its order.
-use mathlib.Core.Path.{_≡_, sym, ap, _∙_}
+use mathlib.Core.Path.{sym, _∙_}
 use native.Mathlib.Omega.{arith}
 use borrow.Author.Tests.{eq-eqb, ne-eqb}
-use borrow.Author.Needs.{needs}
 use Rattle.lower.proofs.compare_accepted.Statement.{statement}
 use Rattle.lower.proofs.compare_accepted.Tie as tie
 

@@ -1,6 +1,5 @@
 -- A task that the sheet has counts unless each task of chain one outranks it.
 use mathlib.Core.Path.{_≡_, sym, ap, _∙_, subst}
-use mathlib.Core.Bool.{not}
 use native.Mathlib.Omega.{arith}
 use borrow.Author.Tests.{lt-ltb, le-ltb}
 use Rattle.sheet.specs.Tasks.{tasksOf, chainOf}

@@ -1,5 +1,5 @@
 -- What is compared is what is lent of the two chains.
-use mathlib.Core.Path.{_≡_, sym, ap₂, _∙_}
+use mathlib.Core.Path.{ap₂, _∙_}
 use native.Mathlib.Omega.{arith}
 use Rattle.lower.specs.Calls.{sameEntries}
 use Rattle.lower.proofs.Lent.{lent, lent-length, lent-most}

@@ -45,7 +45,9 @@ leaves_nothing() { [ -z "$(ls -A "$TMPDIR")" ] || wrong "left behind: $(ls -A "$
 
 # What is explained
 
-for program in report bound 'convert --to 2'; do ./bellkettle $program samples/radio.sheet >/dev/null 2>&1; done # they stand there from here on
+for program in report bound 'convert --to 2' 'compare samples/radio-edition-2.sheet'; do
+    ./bellkettle $program samples/radio.sheet >/dev/null 2>&1 || true # they stand there from here on
+done
 try 'no command' ./bellkettle
 ends 0 && says_nothing && cp "$room/out" "$room/all"
 for command in tools/commands/*; do
@@ -99,6 +101,12 @@ try 'an option that convert does not have, after the edition' ./bellkettle conve
 refuses_use "convert has no option '--verbose'"
 try 'convert: two sheets' ./bellkettle convert --to 2 samples/radio.sheet samples/trio.sheet
 refuses_use 'convert takes one sheet, and 2 were given'
+try 'an option that compare does not have' ./bellkettle compare --all samples/radio.sheet samples/trio.sheet
+refuses_use "compare has no option '--all'"
+for words in '' samples/radio.sheet 'samples/radio.sheet samples/trio.sheet samples/lone.sheet'; do
+    try "compare $words" ./bellkettle compare $words
+    refuses_use "compare takes two sheets, the old and the new, and $(echo "$words" | wc -w) were given"
+done
 try 'version of something' ./bellkettle --version report
 refuses_use '--version takes nothing more'
 
@@ -192,6 +200,31 @@ cat samples/radio.report samples/suite.report samples/odd.bound "$room/out" "$ro
     grep -qxF "    $line" README.md || wrong "README.md expected to print: $line"
 done
 
+# Two sheets
+
+try 'compare: a task at the bottom' ./bellkettle compare samples/radio-edition-2.sheet samples/radio-display.sheet
+ends 0 && says_nothing && prints samples/radio-edition-2.radio-display.compare
+cp "$room/out" "$room/applies"
+try 'compare: another limit' ./bellkettle compare samples/radio-edition-2.sheet samples/radio-own-limit.sheet
+ends 0 && says_nothing && prints samples/radio-edition-2.radio-own-limit.compare
+differs() { # STATUS OLD NEW MESSAGE
+    try "compare $2 $3" ./bellkettle compare "samples/$2.sheet" "samples/$3.sheet"
+    ends "$1" && prints "samples/$2.$3.compare" && says "^bellkettle: $4"
+    [ "$(wc -l <"$room/err")" -eq 1 ] || wrong 'one line expected'
+}
+differs 4 radio radio-edition-2 'samples/radio.sheet: this is an old sheet, .* bellkettle convert --to 2 samples/radio.sheet > FILE$'
+differs 4 radio-edition-2 radio 'samples/radio.sheet: this is an old sheet, '
+differs 4 radio-edition-2 radio-other-chain 'samples/radio-edition-2.sheet, samples/radio-other-chain.sheet: chain one has other tasks, '
+differs 4 spread spread-between 'samples/spread-between.sheet: task 3 is on this sheet only, and is not ranked below '
+differs 4 spread-between spread 'samples/spread-between.sheet: task 3 is on this sheet only, and is not ranked below '
+differs 4 spread spread-above 'samples/spread.sheet, samples/spread-above.sheet: task 1 has another rank on the two sheets, '
+differs 1 radio-display radio-display-late 'samples/radio-display-late.sheet: task 3 is late: '
+differs 1 refused-4-budget refused-9-suite 'samples/refused-4-budget.sheet: at bit 22 (bit 6 of byte 2, counted from 0): a budget is 0 '
+differs 4 radio-edition-2 radio-budget 'samples/radio-edition-2.sheet, samples/radio-budget.sheet: task 2 has another budget on the two sheets, '
+cat "$room/applies" "$room/out" "$room/err" | while read -r line; do
+    grep -qxF "    $line" README.md || wrong "README.md expected to say: $line"
+done
+
 # README's sheet that is mended: its bytes before and after, what is printed of it and what is said.
 try 'the sheet that README mends' ./bellkettle report samples/refused-4-mistyped.sheet
 for sheet in refused-4-mistyped radio; do
@@ -219,8 +252,13 @@ try 'convert: no such file' ./bellkettle convert --to 2 samples/nothing.sheet
 fails 'samples/nothing.sheet: there is no such file; '
 try 'convert: a closed input' sh -c './bellkettle convert --to 2 <&-'
 fails 'standard input: it is closed; give a file there, or its name: bellkettle convert --to 2 FILE'
+for words in 'samples/nothing.sheet samples/radio.sheet' 'samples/radio.sheet samples/nothing.sheet'; do
+    try "compare $words" ./bellkettle compare $words
+    fails 'samples/nothing.sheet: there is no such file; '
+done
 for words in 'report samples/radio.sheet' 'report samples/refused-2-count.sheet' 'bound samples/odd.sheet' 'bound samples/refused-2-count.sheet' \
-    'convert --to 2 samples/radio.sheet' --help 'help report' 'help bound' 'help convert' --version; do
+    'convert --to 2 samples/radio.sheet' 'compare samples/radio-edition-2.sheet samples/radio-display.sheet' 'compare samples/spread.sheet samples/spread-between.sheet' \
+    --help 'help report' 'help bound' 'help convert' 'help compare' --version; do
     try "$words, to a full disk" sh -c "./bellkettle $words >/dev/full"
     fails 'standard output: not all could be written there; '
     try "$words, to a closed output" sh -c "./bellkettle $words >&-"

@@ -1,5 +1,6 @@
 #!/bin/sh
-# The compiled programs report, bound and convert on every sample sheet, on a long input, and on an input that comes byte by byte.
+# The compiled programs report, bound and convert on every sample sheet, on a long input, and on an input that comes byte by byte; compare on
+# every pair that is stored.
 set -eu
 cd "$(dirname "$0")/.."
 room=$(mktemp -d)
@@ -93,4 +94,15 @@ for sheet in lone radio; do
 done
 for sheet in suite suite-of-eight radio-own-limit refused-10-suite refused-15-suite; do stays 1 samples/$sheet.sheet 'refused 18'; done
 
-echo "report, bound, convert: $(wc -l <"$room/tried") inputs as the model says"
+for expected in samples/*.compare; do
+    pair=${expected##*/} pair=${pair%.compare}
+    name="compare: $pair"
+    run compare "samples/${pair%.*}.sheet" "samples/${pair#*.}.sheet"
+    cmp -s "$room/got" "$expected" || { echo "expected" && cat "$expected" && echo "got" && cat "$room/got" && wrong 'this is not what it must print'; }
+    case $status:$(head -n 1 "$expected") in
+    0:applies | 4:differs* | 1:old* | 1:new*) echo "$name" >>"$room/tried" ;;
+    *) wrong "ended with status $status" ;;
+    esac
+done
+
+echo "report, bound, convert, compare: $(wc -l <"$room/tried") inputs as the model says"

@@ -1,6 +1,6 @@
 //! Sheets and requests by chance: taken and late, at every limit and past it, damaged in a field or in the bytes.
 
-use crate::probe::{run_bytes, Call, Handed, Lent, Request, CALLS};
+use crate::probe::{fields, run_bytes, Call, Handed, Lent, Request, CALLS};
 use crate::random::Random;
 use crate::recurrence::response;
 use crate::schedule::sizes;
@@ -290,9 +290,44 @@ fn lent(r: &mut Random, call: Call, sheet: &Handed) -> Lent {
             let room = length(r, seen.map(|s| unjudged(&s).len() as u32));
             Lent::Bytes(r.bytes(room))
         }
+        Call::Compare => {
+            let other = match seen {
+                Some(s) => beside(r, &s),
+                None => any_sheet(r),
+            };
+            Lent::Bytes(fields(&other))
+        }
         Call::Judge | Call::Sizes | Call::QuickBound | Call::ToSecond | Call::ToFirst | Call::Numbered => Lent::Bytes(vec![]),
         _ => table(r, seen.and_then(|s| sizes(&s).ok()).map(|z| z.jobs)),
     }
+}
+
+/// A sheet to compare with another: mostly the same with tasks that come, go and change, below chain one or not.
+fn beside(r: &mut Random, s: &Memory) -> Memory {
+    let mut other = *s;
+    if r.one_in(8) {
+        return any_sheet(r);
+    }
+    let count = usize::from(s.count).clamp(1, 16);
+    let lowest = (0..count).map(|i| s.tasks[i].rank).min().unwrap();
+    match r.between(0, 5) {
+        0 => fault(r, &mut other),
+        1 => other.chains[0] = limited(own_limit(r), &chain_of(r, s.tasks())),
+        2 => other.chains[0].limit = own_limit(r),
+        _ => {}
+    }
+    let i = r.between(0, 15).min(count as u32) as usize;
+    match r.between(0, 5) {
+        0 if i < 16 => other.tasks[i].budget = r.between(1, other.tasks[i].budget.clamp(1, 100_000)),
+        1 if i < 16 => other.tasks[i].rank = r.word() as u8,
+        2 => other.count = s.count.saturating_sub(1),
+        3 | 4 if count < 16 && lowest > 0 => {
+            other.tasks[count] = Task { period: r.pick(&[60, 120, 240, 1_000]), budget: 1, rank: r.pick(&[0, lowest - 1, lowest, lowest + 1]) };
+            other.count = count as u8 + 1;
+        }
+        _ => {}
+    }
+    other
 }
 
 /// The number of a chain: mostly one that the sheet has, else one less than the first, one more than the last, or anything.
@@ -351,7 +386,7 @@ fn number(r: &mut Random, call: Call, seen: Option<Memory>, chain: u8) -> u32 {
 
 fn of_sheet(r: &mut Random, call: Call) -> Request {
     let sheet = match call {
-        Call::ToFirst => goes_back(r),
+        Call::ToFirst | Call::Compare => goes_back(r),
         _ => handed(r),
     };
     let lent = lent(r, call, &sheet);

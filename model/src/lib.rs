@@ -6,6 +6,7 @@ pub mod bits;
 pub mod chain;
 pub mod experiment;
 pub mod generate;
+pub mod lower;
 pub mod probe;
 pub mod random;
 pub mod recurrence;

@@ -1,8 +1,9 @@
 //! Requests of crates/probe, what the model answers to each, and the probe itself as a process.
 
+use crate::lower::{compare, Comparison};
 use crate::recurrence::quick;
 use crate::schedule::Worked;
-use crate::sheet::{judge, numbered, read, to_first, to_second, write, Chain, Memory};
+use crate::sheet::{judge, numbered, read, to_first, to_second, write, Chain, Memory, Task};
 use crate::telltale::{self, History};
 use crate::{arith, bits, chain, schedule, Refusal};
 use std::fmt;
@@ -35,13 +36,14 @@ pub enum Call {
     ToFirst,
     Numbered,
     Telltale,
+    Compare,
 }
 
 use Call::*;
 
-pub const CALLS: [Call; 23] = [
+pub const CALLS: [Call; 24] = [
     Gcd, Lcm, Up, Magnitude, Number, Put, Read, Greatest, Judge, Write, Sizes, Responses, TaskResponses, Delay, Margin, DefaultMargin,
-    Figures, QuickBound, Suite, ToSecond, ToFirst, Numbered, Telltale,
+    Figures, QuickBound, Suite, ToSecond, ToFirst, Numbered, Telltale, Compare,
 ];
 
 impl Call {
@@ -57,6 +59,7 @@ impl Call {
             Responses | TaskResponses | Margin | DefaultMargin | Figures | Suite => fields.chain([10, 11, 14, 15]).collect(),
             Delay => fields.chain([10, 11, 12, 14, 15]).collect(),
             QuickBound => fields.chain([15]).collect(),
+            Compare => fields.chain([10, 11, 15]).collect(),
         }
     }
 
@@ -147,7 +150,7 @@ fn big_endian(words: &[u32]) -> Vec<u8> {
 }
 
 /// A sheet in memory, field by field.
-fn fields(s: &Memory) -> Vec<u8> {
+pub fn fields(s: &Memory) -> Vec<u8> {
     let mut bytes = vec![s.edition, s.count, s.suite];
     for t in s.tasks {
         bytes.extend(big_endian(&[t.period, t.budget]));
@@ -159,6 +162,21 @@ fn fields(s: &Memory) -> Vec<u8> {
         bytes.extend(c.entries);
     }
     bytes
+}
+
+/// The sheet of such bytes, the missing ones 0.
+fn sheet_in(bytes: &[u8]) -> Memory {
+    let byte = |at: usize| bytes.get(at).copied().unwrap_or(0);
+    let word = |at: usize| u32::from_be_bytes([byte(at), byte(at + 1), byte(at + 2), byte(at + 3)]);
+    let task = |at: usize| Task { period: word(at), budget: word(at + 4), rank: byte(at + 8) };
+    let chain = |at: usize| Chain { limit: word(at), length: byte(at + 4), entries: std::array::from_fn(|i| byte(at + 5 + i)) };
+    Memory {
+        edition: byte(0),
+        count: byte(1),
+        suite: byte(2),
+        tasks: std::array::from_fn(|i| task(3 + 9 * i)),
+        chains: std::array::from_fn(|i| chain(147 + 21 * i)),
+    }
 }
 
 impl Request {
@@ -269,6 +287,24 @@ fn run_values(readings: u32, bytes: &[u8]) -> Vec<u32> {
     run_calls(bytes).into_iter().flat_map(values).collect()
 }
 
+const SHEETS: [&str; 2] = ["old", "new"];
+const DIFFERENCES: [&str; 5] = ["old only", "new only", "period", "budget", "rank"];
+
+fn place(names: &[&str], name: &str) -> u32 {
+    names.iter().position(|n| *n == name).unwrap() as u32
+}
+
+/// What was found, the sheet or the index, and what differs there.
+fn compared(found: Comparison) -> Told {
+    match found {
+        Comparison::Applies => Ok(vec![0, 0, 0]),
+        Comparison::Edition(which) => Ok(vec![1, place(&SHEETS, which), 0]),
+        Comparison::Chain => Ok(vec![2, 0, 0]),
+        Comparison::Task(i, difference) => Ok(vec![3, i as u32, place(&DIFFERENCES, difference)]),
+        Comparison::Refused(_, refusal) => Err(refusal),
+    }
+}
+
 fn of_sheet(call: Call, number: u32, chain: u8, s: &Memory, buffer: &mut [u8], table: &mut [u32]) -> Told {
     match call {
         Judge => judge(s).map(|_| vec![]),
@@ -285,6 +321,7 @@ fn of_sheet(call: Call, number: u32, chain: u8, s: &Memory, buffer: &mut [u8], t
         ToSecond => to_second(s).map(|s| sheet_values(&s)),
         ToFirst => to_first(s).map(|s| sheet_values(&s)),
         Numbered => numbered(s, chain).map(|_| vec![]),
+        Compare => compared(compare(s, &sheet_in(buffer))),
         _ => unreachable!("{call:?} takes no sheet"),
     }
 }
@@ -316,6 +353,13 @@ fn values_of_a_refusal(q: &Request) -> Vec<u32> {
         ToSecond | ToFirst if q.sheet.memory().is_some() => sheet_values(&Memory::default()),
         TaskResponses | Figures | QuickBound if q.sheet.memory().is_some() => vec![0; 16],
         Suite if q.sheet.memory().is_some() => [vec![0; 16], eight(&[], &[])].concat(),
+        Compare => match (q.sheet.memory(), &q.lent) {
+            (Some(s), Lent::Bytes(other)) => match compare(&s, &sheet_in(other)) {
+                Comparison::Refused(which, _) => vec![place(&SHEETS, which)],
+                _ => unreachable!("only a refusal is asked about"),
+            },
+            _ => vec![],
+        },
         _ => vec![],
     }
 }

@@ -1,6 +1,7 @@
-//! The lines of the programs report and bound, and what the program convert answers.
+//! The lines of the programs report, bound and compare, and what the program convert answers.
 
 use crate::chain::suite;
+use crate::lower::{self, Comparison};
 use crate::recurrence::quick;
 use crate::sheet::{read, to_first, to_second, write, Memory};
 use crate::Refusal;
@@ -45,6 +46,28 @@ pub fn report(bytes: &[u8]) -> String {
 /// The quick bound with no table, and what it is made of.
 pub fn bound(bytes: &[u8]) -> String {
     or_refusal(bound_lines(bytes))
+}
+
+/// What the program compare prints of an old and a new sheet; both are read before anything else is judged.
+pub fn compare(old: &[u8], new: &[u8]) -> String {
+    let found = match (read(old), read(new)) {
+        (Err(refusal), _) => Comparison::Refused("old", refusal),
+        (_, Err(refusal)) => Comparison::Refused("new", refusal),
+        (Ok(old), Ok(new)) => {
+            let found = lower::compare(&old, &new);
+            if found == Comparison::Applies && old.chains[0].limit != new.chains[0].limit {
+                return "applies\nchain one has the same worst, release, bound and responses; its margin is under another limit\n".into();
+            }
+            found
+        }
+    };
+    match found {
+        Comparison::Applies => "applies\nchain one has the same worst, release, bound, margin and responses, and need not be signed again\n".into(),
+        Comparison::Refused(which, refusal) => format!("{which} {refusal}\n"),
+        Comparison::Edition(which) => format!("differs edition {which}\n"),
+        Comparison::Chain => "differs chain\n".into(),
+        Comparison::Task(i, difference) => format!("differs task {i} {difference}\n"),
+    }
 }
 
 /// The bytes of the sheet in the edition that is wanted, 1 or 2.

@@ -1,16 +1,16 @@
 //! Requests that are always made of the probe: document 01's sheets, both ends of each range, every place where bytes may end, each
 //! refusal alone, at the first and at the last place where it can occur, and beside another, tables and buffers that are too short by
 //! one, exact and longer, sheets for which only the quick bound without a table is answered, every chain by its number and numbers of
-//! none, conversions, runs of the tell-tale's calls, and every call on every sample and on every bad field in memory.
+//! none, conversions, runs of the tell-tale's calls, pairs of sheets, and every call on every sample and on every bad field in memory.
 
-use crate::probe::{run_bytes, Call, Handed, Lent, Request};
+use crate::probe::{fields, run_bytes, Call, Handed, Lent, Request};
 use crate::schedule::{responses, sizes};
 use crate::sheet::{chain, encoded, marked_bits, memory, packed, raw_bits, read, suite, unjudged, Chain, Memory, Task};
 use crate::telltale::{self, Call::{Begin, Stamp}};
 use Call::*;
 
 pub fn requests() -> Vec<Request> {
-    [numbers_and_bits(), readings(), sheets_in_memory(), tables(), chains(), without_a_table(), chain_numbers(), conversions(), runs(), samples()].concat()
+    [numbers_and_bits(), readings(), sheets_in_memory(), tables(), chains(), without_a_table(), chain_numbers(), conversions(), runs(), comparisons(), samples()].concat()
 }
 
 // Parts of requests
@@ -708,6 +708,44 @@ fn runs() -> Vec<Request> {
     ]
 }
 
+// Two sheets: each field of each kind of task changed, a task more or less, another chain, edition or limit, and each refused in its turn
+
+fn comparisons() -> Vec<Request> {
+    let base: Vec<Task> = vec![task(20, 5, 10), task(6, 1, 30), task(12, 3, 20), task(60, 1, 15), task(60, 2, 9)];
+    let one = |tasks: &[Task], entries: &[u8]| suite(tasks, &[chain(1_000, entries)]);
+    let with = |i: usize, t: Task| {
+        let mut tasks = base.clone();
+        tasks.splice(i..(i + 1).min(tasks.len()), [t]);
+        one(&tasks, &[0, 1, 2])
+    };
+    let old = one(&base, &[0, 1, 2]);
+    let late = with(4, task(60, 60, 9));
+    let others = [
+        old,
+        with(4, task(40, 3, 0)),
+        with(5, task(7, 1, 8)),
+        with(5, task(60, 1, 11)),
+        one(&base[..4], &[0, 1, 2]),
+        one(&base[..3], &[0, 1, 2]),
+        with(2, task(15, 3, 20)),
+        with(0, task(20, 4, 10)),
+        with(1, task(6, 1, 31)),
+        with(3, task(60, 1, 16)),
+        with(4, task(60, 2, 11)),
+        one(&base, &[0, 2, 1]),
+        one(&base, &[0, 1]),
+        suite(&base, &[chain(5, &[0, 1, 2]), chain(6, &[3])]),
+        memory(&base, &[0, 1, 2]),
+        late,
+        with(4, task(997, 1, 9)),
+        with(0, task(20, 21, 10)),
+    ];
+    let compared = |old: Memory, new: Memory| request(Compare, [0; 3], Handed::Memory(old), Lent::Bytes(fields(&new)));
+    let back = [others[3], others[14], late];
+    let pairs = others.map(|s| (old, s)).into_iter().chain(back.map(|s| (s, old))).chain([(late, with(0, task(20, 21, 10)))]);
+    pairs.map(|(a, b)| compared(a, b)).collect()
+}
+
 // Every call on every sample, and on sheets in memory
 
 fn samples() -> Vec<Request> {
@@ -725,7 +763,7 @@ fn samples() -> Vec<Request> {
     sheets.flat_map(|s| every_call(&s)).collect()
 }
 
-/// The table has three entries more than are needed, or twenty where none are.
+/// The table has three entries more than are needed, or twenty where none are. A large one comes back whole, so it is lent to few calls.
 fn every_call(sheet: &Handed) -> Vec<Request> {
     let jobs = sheet.memory().and_then(|s| sizes(&s).ok()).map_or(17, |z| z.jobs);
     let with = |call, number, lent| request(call, [number, 1, 0], sheet.clone(), lent);
@@ -735,15 +773,14 @@ fn every_call(sheet: &Handed) -> Vec<Request> {
         Handed::Memory(_) => vec![],
     };
     requests.extend([with(Judge, 0, nothing_lent()), with(Write, 0, buffer(178)), with(Sizes, 0, nothing_lent())]);
+    requests.push(with_table(Suite, 0));
+    if jobs <= 2_000 {
+        requests.extend([with_table(TaskResponses, 0), with_table(Delay, 0), with_table(Margin, 8), with_table(Figures, 0)]);
+    }
+    if jobs <= 1_000 {
+        requests.extend([with_table(Responses, 0), with_table(Delay, 20), with_table(DefaultMargin, 0)]);
+    }
     requests.extend([
-        with_table(Responses, 0),
-        with_table(TaskResponses, 0),
-        with_table(Delay, 0),
-        with_table(Delay, 20),
-        with_table(Margin, 8),
-        with_table(DefaultMargin, 0),
-        with_table(Figures, 0),
-        with_table(Suite, 0),
         with(QuickBound, 0, nothing_lent()),
         with(ToSecond, 0, nothing_lent()),
         with(ToFirst, 0, nothing_lent()),

@@ -69,6 +69,11 @@ pub sum-grows : (f : ℕ → ℕ) (m n : ℕ) → m ≤ n → sum m f ≤ sum n 
 unfolding sum
 sum-grows f = grows (λ x. sum x f) (λ t. omega arith)
 
+-- Terms that are 0 add nothing.
+pub sum-longer : (f : ℕ → ℕ) (m n : ℕ) → m ≤ n → ((j : ℕ) → m ≤ j → f j ≡ 0) → sum m f ≡ sum n f
+unfolding sum
+sum-longer f m n l none = le-ind (λ x. sum m f ≡ sum x f) refl (λ x q r. omega (arith, none x q)) n l
+
 -- Maxima
 
 pub maximum-above : (n : ℕ) (f : ℕ → ℕ) (k : ℕ) → k < n → f k ≤ maximum n f

@@ -14,7 +14,7 @@ use Rattle.theory.specs.Analysis.Hyperperiod.{jobs-whole, jobs-positive, jobs-r
 use Rattle.theory.specs.Analysis.Repetition.{response-jobs, response-period}
 use Rattle.theory.specs.Model.Chain.{Chain, walkDelay, outranked, delay, sampling, samplingRelease, bound}
 use Rattle.theory.specs.Analysis.ChainLaws.{chain-head}
-use Rattle.theory.specs.Analysis.WalkLaws.{Alike, walk-delay-same, walk-bound-same}
+use Rattle.theory.specs.Analysis.WalkLaws.{Along, chain-along, Alike, walk-delay-same, walk-bound-same}
 use Rattle.sheet.specs.Tasks.{firstOf, restOf}
 use Rattle.schedule.specs.Calls.{mostTicks}
 use Rattle.chain.specs.declared.answer.Figure.{Figure}
@@ -41,8 +41,11 @@ module _ {ts : List Task} {chain : List ℕ} (taken : TakenChain ts chain) {tabl
   listed i = i < length ts
 
   -- The plan and the table hold what the figures go by.
-  alike : Alike (length ts) (periodIn plan) (period ts) (waitsIn plan) (outranked ts)
+  alike : Alike listed (periodIn plan) (period ts) (waitsIn plan) (outranked ts)
   alike = record { periods = planned .periods-are; hand-overs = λ p c lp lc. ap₂ ltb (planned .ranks-are p lp) (planned .ranks-are c lc) }
+
+  on : Along listed p (restOf chain)
+  on = chain-along (length ts) p (restOf chain) (taken .known)
 
   response-is : (i k : ℕ) → listed i → rowsIn plan table i k ≡ response ts i k
   response-is i k l =
@@ -95,7 +98,7 @@ module _ {ts : List Task} {chain : List ℕ} (taken : TakenChain ts chain) {tabl
   unfolding delay
   plan-delay k =
       ap (λ T. walkDelay (periodIn plan) (waitsIn plan) (rowsIn plan table) p (restOf chain) (k * T)) (planned .periods-are p known)
-      ∙ walk-delay-same alike (rowsIn plan table) (response ts) response-is p (restOf chain) (release ts p k) (taken .known)
+      ∙ walk-delay-same alike (rowsIn plan table) (response ts) response-is p (restOf chain) (release ts p k) on
 
   -- its sampling figure,
   pub plan-sampling : (figure : Figure) → Greatest (countIn plan p) (periodIn plan p) (delayIn plan table chain) figure → figure ≡ figureOf ts chain
@@ -121,4 +124,4 @@ module _ {ts : List Task} {chain : List ℕ} (taken : TakenChain ts chain) {tabl
   -- and its quick bound.
   pub plan-bound : boundIn plan table chain ≡ quickBound ts chain
   unfolding bound
-  plan-bound = walk-bound-same alike (greatestIn plan table) (taskResponse ts) greatest-is p (restOf chain) (taken .known)
+  plan-bound = walk-bound-same alike (greatestIn plan table) (taskResponse ts) greatest-is p (restOf chain) on

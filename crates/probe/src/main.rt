@@ -25,6 +25,9 @@ use chain::Margin;
 use chain::Suite;
 use chain::Summary;
 use chain::TaskFigures;
+use lower::Comparison;
+use lower::Difference;
+use lower::Which;
 use recurrence::Quick;
 use recurrence::QuickBound;
 use request::Request;
@@ -176,6 +179,41 @@ fn put_quick_bound(out: &mut [u8], q: QuickBound) -> usize {
     put_words(out, at, &responses)
 }
 
+fn short(x: u8) -> u32 {
+    x as u32
+}
+
+fn which_number(which: Which) -> u32 {
+    match which {
+        Which::Old => 0,
+        Which::New => 1,
+    }
+}
+
+fn difference_number(difference: Difference) -> u32 {
+    match difference {
+        Difference::OldOnly => 0,
+        Difference::NewOnly => 1,
+        Difference::Period => 2,
+        Difference::Budget => 3,
+        Difference::Rank => 4,
+    }
+}
+
+// What was found, the sheet or the index, and what differs there; after a refusal the sheet.
+fn put_comparison(out: &mut [u8], found: Comparison) -> usize {
+    match found {
+        Comparison::Applies => three(out, 0, 0, 0),
+        Comparison::Edition(which) => three(out, 1, which_number(which), 0),
+        Comparison::Chain => three(out, 2, 0, 0),
+        Comparison::Task(i, difference) => three(out, 3, short(i), difference_number(difference)),
+        Comparison::Refused(which, r) => {
+            let at = refused(&mut *out, r);
+            put_word(out, at, which_number(which))
+        }
+    }
+}
+
 // Whether it is below zero, and how far from zero it is.
 fn put_signed(out: &mut [u8], at: usize, z: i32) -> usize {
     let next = put_word(&mut *out, at, below_zero(z));
@@ -245,6 +283,7 @@ fn of_sheet(
         20 => put_reading(out, sheet::to_second(s)),
         21 => put_reading(out, sheet::to_first(s)),
         22 => put_verdict(out, sheet::numbered(s, chain)),
+        24 => put_comparison(out, lower::compare(s, sheet_in(&*lent))),
         _ => accepted(out),
     }
 }

@@ -24,5 +24,7 @@ pub mod FlagLaws
 -- The laws of the recurrence.
 pub mod RecurrenceLaws
 pub mod QuickLaws
+-- The laws of tasks that are ranked below others.
+pub mod LowerLaws
 -- Figures of given sheets by evaluation.
 pub mod Evaluation

@@ -5,3 +5,4 @@ pub mod Demand3
 pub mod Flags
 pub mod QuickBound
 pub mod QuickExamples
+pub mod LowerRanks

@@ -111,7 +111,7 @@ impl Met {
         if let (Call::QuickBound, Some(s)) = (q.call, q.sheet.memory()) {
             self.note_quick(&s, a);
         }
-        let on_a_sheet = (Call::Judge as u32..Call::Telltale as u32).contains(&(q.call as u32));
+        let on_a_sheet = q.call as u32 >= Call::Judge as u32 && q.call != Call::Telltale;
         if let Some(s) = q.sheet.memory().filter(|s| on_a_sheet && judge(s).is_ok()) {
             self.note_sheet(q, &s, a);
         }

@@ -1,7 +1,7 @@
-//! The sample sheets of both editions, document 01's, one for each refusal and some more, with the report and the quick bound of each; and
-//! what the programs report, bound and convert are run on.
+//! The sample sheets of both editions, document 01's, one for each refusal and some more, with the report and the quick bound of each; what
+//! is said of some pairs of them; and what the programs are run on.
 
-use model::report::{bound, converted, report};
+use model::report::{bound, compare, converted, report};
 use model::sheet::{chain, encoded, marked_bits, packed, raw_bits, suite, Memory, Task};
 use model::store;
 
@@ -21,6 +21,9 @@ fn main() {
     // Radio's tasks, and two of lower rank that show the reading and ring the bell.
     let clock = tasks(&[(20, 5, 3), (6, 1, 5), (12, 3, 4), (30, 3, 2), (60, 4, 1)]);
     let parts = [chain(60, &[0, 1, 2]), chain(100, &[0, 1, 3]), chain(75, &[0, 4])];
+    // Radio's tasks with room between the ranks, and a task more behind a chain 0 1 2.
+    let spread = tasks(&[(20, 5, 10), (6, 1, 30), (12, 3, 20)]);
+    let with = |list: &[Task], more| suite(&[list, &tasks(&[more])[..]].concat(), &[chain(1_000, &[0, 1, 2])]);
     let second = |s: &Memory| packed(&marked_bits(2, s));
     let spoilt = |spoil: fn(&mut Memory)| {
         let mut s = suite(&clock, &parts);
@@ -63,6 +66,14 @@ fn main() {
         ("lone-edition-2", second(&suite(&lone, &[chain(1_000, &[0])]))),
         ("radio-edition-2", second(&suite(&radio, &[chain(1_000, &[0, 1, 2])]))),
         ("radio-own-limit", second(&suite(&radio, &[chain(39, &[0, 1, 2])]))),
+        ("radio-display", second(&with(&radio, (40, 9, 0)))),
+        ("radio-display-late", second(&with(&radio, (40, 40, 0)))),
+        ("radio-budget", second(&suite(&tasks(&[(20, 5, 1), (6, 1, 3), (12, 2, 2)]), &[chain(1_000, &[0, 1, 2])]))),
+        ("radio-other-chain", second(&suite(&radio, &[chain(1_000, &[0, 2, 1])]))),
+        ("spread", second(&suite(&spread, &[chain(1_000, &[0, 1, 2])]))),
+        ("spread-between", second(&with(&spread, (60, 1, 15)))),
+        ("spread-above", second(&suite(&tasks(&[(20, 5, 10), (6, 1, 40), (12, 3, 20)]), &[chain(1_000, &[0, 1, 2])]))),
+        ("suite-fewer", second(&suite(&clock[..4], &[parts[0], chain(7, &[3])]))),
         ("refused-1-suite-cut-short", second(&suite(&clock, &parts))[..30].to_vec()),
         ("refused-6-suite", spoilt(|s| s.chains[2].length = 6)),
         ("refused-7-suite", spoilt(|s| s.chains[1].entries[2] = 5)),
@@ -76,6 +87,24 @@ fn main() {
         ("refused-17-no-chain", spoilt(|s| s.suite = 0)),
         ("refused-17-nine-chains", spoilt(|s| s.suite = 9)),
     ];
+    // An old and a new sheet.
+    let pairs = [
+        ("radio-edition-2", "radio-display"),
+        ("radio-display", "radio-edition-2"),
+        ("radio-display", "radio-display-late"),
+        ("radio-edition-2", "radio-own-limit"),
+        ("radio-edition-2", "radio-budget"),
+        ("radio-edition-2", "radio-other-chain"),
+        ("radio", "radio-edition-2"),
+        ("radio-edition-2", "radio"),
+        ("spread", "spread-between"),
+        ("spread-between", "spread"),
+        ("spread", "spread-above"),
+        ("suite", "suite-fewer"),
+        ("refused-4-budget", "refused-9-suite"),
+        ("suite", "refused-9-suite"),
+        ("refused-10-suite", "refused-15-suite"),
+    ];
     let mut files: Vec<(String, Vec<u8>)> = Vec::new();
     for (name, bytes) in &sheets {
         files.push((format!("samples/{name}.sheet"), bytes.clone()));
@@ -84,6 +113,11 @@ fn main() {
     }
     let named = |name| &sheets.iter().find(|sheet| sheet.0 == name).unwrap().1;
     let (radio, odd) = (named("radio"), named("odd"));
+    for (old, new) in pairs {
+        files.push((format!("samples/{old}.{new}.compare"), compare(named(old), named(new)).into_bytes()));
+    }
+    files.push(("crates/compare/stdin".into(), named("radio-edition-2").clone()));
+    files.push(("crates/compare/stdout".into(), compare(named("radio-edition-2"), b"").into_bytes()));
     files.push(("crates/report/stdin".into(), radio.clone()));
     files.push(("crates/report/stdout".into(), report(radio).into_bytes()));
     files.push(("crates/bound/stdin".into(), odd.clone()));

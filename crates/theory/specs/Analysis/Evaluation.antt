@@ -16,7 +16,7 @@ use Rattle.theory.specs.Model.Responses.{response, hyperperiod, jobs, ta
 use Rattle.theory.specs.Analysis.Hyperperiod.{released-jobs}
 use Rattle.theory.specs.Analysis.Clearing.{clearing, response-clearing, late-clearing}
 use Rattle.theory.specs.Model.Chain.{Chain, outranked, delay, sampling, samplingRelease, bound}
-use Rattle.theory.specs.Analysis.WalkLaws.{Alike, alike-self, walk-delay-same, walk-worst-same, walk-worst-release-same, walk-bound-same}
+use Rattle.theory.specs.Analysis.WalkLaws.{Along, chain-along, Alike, alike-self, walk-delay-same, walk-worst-same, walk-worst-release-same, walk-bound-same}
 
 -- What is decided to hold holds.
 pub decided : {P : Type 0} (d : Dec P) → T (decide d) → P
@@ -94,23 +94,26 @@ module _ {ts : List Task} (good : Proper ts) (p : ℕ) (rest : List ℕ) (chain 
   cleared : (i k : ℕ) → i < length ts → response ts i k ≡ clearing ts i k
   cleared i k l = response-clearing good i k l
 
-  self : Alike (length ts) (period ts) (period ts) (outranked ts) (outranked ts)
-  self = alike-self (length ts) (period ts) (outranked ts)
+  self : Alike (λ i. i < length ts) (period ts) (period ts) (outranked ts) (outranked ts)
+  self = alike-self (λ i. i < length ts) (period ts) (outranked ts)
+
+  on : Along (λ i. i < length ts) p rest
+  on = chain-along (length ts) p rest chain
 
   pub delay-clearing : (r : ℕ) → delay ts (response ts) p rest r ≡ delay ts (clearing ts) p rest r
   unfolding delay
-  delay-clearing r = walk-delay-same self (response ts) (clearing ts) cleared p rest r chain
+  delay-clearing r = walk-delay-same self (response ts) (clearing ts) cleared p rest r on
 
   pub sampling-clearing : sampling ts (response ts) p rest ≡ sampling ts (clearing ts) p rest
   unfolding sampling
-  sampling-clearing = walk-worst-same self (response ts) (clearing ts) cleared (hyperperiod ts) p rest chain
+  sampling-clearing = walk-worst-same self (response ts) (clearing ts) cleared (hyperperiod ts) p rest on
 
   pub sampling-release-clearing : samplingRelease ts (response ts) p rest ≡ samplingRelease ts (clearing ts) p rest
   unfolding samplingRelease
-  sampling-release-clearing = walk-worst-release-same self (response ts) (clearing ts) cleared (hyperperiod ts) p rest chain
+  sampling-release-clearing = walk-worst-release-same self (response ts) (clearing ts) cleared (hyperperiod ts) p rest on
 
   pub bound-clearing : bound ts (taskResponse ts) p rest ≡ bound ts (λ i. maximum (jobs ts i) (clearing ts i)) p rest
   unfolding taskResponse bound
   bound-clearing =
       walk-bound-same self (taskResponse ts) (λ i. maximum (jobs ts i) (clearing ts i))
-      (λ i l. ap (maximum (jobs ts i)) (fun-ext (λ k. cleared i k l))) p rest chain
+      (λ i l. ap (maximum (jobs ts i)) (fun-ext (λ k. cleared i k l))) p rest on

@@ -28,7 +28,7 @@ cond-add : (b : Bool) (x y : ℕ) → cond b (x + y) 0 ≡ cond b x 0 + cond b y
 cond-add true x y = refl
 cond-add false x y = refl
 
-cond-zero : (b : Bool) {x : ℕ} → x ≡ 0 → cond b x 0 ≡ 0
+pub cond-zero : (b : Bool) {x : ℕ} → x ≡ 0 → cond b x 0 ≡ 0
 cond-zero true e = e
 cond-zero false e = refl
 

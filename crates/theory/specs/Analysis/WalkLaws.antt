@@ -1,10 +1,10 @@
 -- The arithmetic of a chain's figures, for all periods, hand-overs that wait and responses: where responses repeat with H, so do delays;
 -- the worst figure is then the greatest of all delays, and it is at most the quick bound.
-use mathlib.Core.Path.{_≡_, refl, sym, ap, ap₂, _∙_, fun-ext}
+use mathlib.Core.Path.{_≡_, refl, sym, ap, ap₂, _∙_, subst, fun-ext}
 use mathlib.Core.List.{List, [], _∷_}
 use mathlib.Core.Bool.{Bool, true, false, cond}
 use Prim.Native.Nat.{ℕ, zero, suc, _+_, _-_, _*_, _/_, _%_, _≤_, _<_, _∣_}
-use native.Mathlib.Nat.{dvd-trans, dvd-add, dvd-mul-left, le-of-dvd, mod-lt, div-add-mod', div-mul-cancel, mul-div-cancel, add-mul-div-right, mul-le-mul-right}
+use native.Mathlib.Nat.{le-antisymm, dvd-trans, dvd-add, dvd-mul-left, le-of-dvd, mod-lt, div-add-mod', div-mul-cancel, mul-div-cancel, add-mul-div-right, mul-le-mul-right}
 use native.Mathlib.Omega.{arith}
 use lib.Dec.{eqb}
 use borrow.Author.Tests.{eqb-true, eq-eqb}
@@ -182,40 +182,69 @@ module _ {n : ℕ} {T : ℕ → ℕ} (positive : (i : ℕ) → i < n → 0 < T i
   unfolding walkWorst
   walk-worst-bound H p rest l = maximum-least (H / T p) _ (walkBound T waits R p rest) (λ k h. delay-bound p rest k l)
 
--- Figures by functions that agree on the tasks are equal
+-- A figure and its release are told by the delays alone, whatever the hyperperiod
 
--- The periods of n tasks are the same, and the hand-overs between them that wait.
-pub record Alike (n : ℕ) (T T′ : ℕ → ℕ) (waits waits′ : Waits) : Type 0 where
-  pub periods : (i : ℕ) → i < n → T i ≡ T′ i
-  pub hand-overs : (p c : ℕ) → p < n → c < n → waits p c ≡ waits′ p c
+module _ {T : ℕ} {delays : ℕ → ℕ} where
+  figure-most : {H H′ figure figure′ at at′ : ℕ} → GreatestOf T H delays figure at → GreatestOf T H′ delays figure′ at′ → figure ≤ figure′
+  figure-most {at = at} x y = rw (← x .given, ← ap delays (x .first-task)) (y .greatest (at / T))
 
-pub alike-self : (n : ℕ) (T : ℕ → ℕ) (waits : Waits) → Alike n T T waits waits
-alike-self n T waits = record { periods = λ i l. refl; hand-overs = λ p c lp lc. refl }
+  release-most : {H H′ figure at at′ : ℕ} → GreatestOf T H delays figure at → GreatestOf T H′ delays figure at′ → at ≤ at′
+  release-most {at′ = at′} x y = rw (y .first-task) at (x .smallest (at′ / T) (ap delays (y .first-task) ∙ y .given))
 
-module _ {n : ℕ} {T T′ : ℕ → ℕ} {waits waits′ : Waits} (alike : Alike n T T′ waits waits′) where
-  module _ (table table′ : Table) (same : (i k : ℕ) → i < n → table i k ≡ table′ i k) where
-    pub walk-delay-same : (p : ℕ) (rest : List ℕ) (r : ℕ) → ChainOf n p rest
+  pub greatest-unique : {H H′ figure figure′ at at′ : ℕ} → GreatestOf T H delays figure at → GreatestOf T H′ delays figure′ at′
+      → (figure ≡ figure′) × (at ≡ at′)
+  greatest-unique {H = H} {H′ = H′} {figure = figure} {figure′ = figure′} {at = at} {at′ = at′} x y =
+      let same : figure ≡ figure′ = le-antisymm (figure-most x y) (figure-most y x) in
+      let z : GreatestOf T H′ delays figure at′ = subst (λ f. GreatestOf T H′ delays f at′) (sym same) y in
+      (same, le-antisymm (release-most x z) (release-most z x))
+
+-- Figures by functions that agree on the tasks of a chain are equal
+
+-- Each task of a chain is one of these.
+abbrev pub Along : (ℕ → Type 0) → ℕ → List ℕ → Type 0
+Along These p [] = These p
+Along These p (c ∷ rest) = These p × Along These c rest
+
+pub along-first : (These : ℕ → Type 0) (p : ℕ) (rest : List ℕ) → Along These p rest → These p
+along-first These p [] on = on
+along-first These p (c ∷ rest) on = on .0
+
+pub chain-along : (n p : ℕ) (rest : List ℕ) → ChainOf n p rest → Along (λ i. i < n) p rest
+chain-along n p [] l = l
+chain-along n p (c ∷ rest) l = (l .0, chain-along n c rest (l .2))
+
+-- These tasks have the same periods, and the same hand-overs between them wait.
+pub record Alike (These : ℕ → Type 0) (T T′ : ℕ → ℕ) (waits waits′ : Waits) : Type 0 where
+  pub periods : (i : ℕ) → These i → T i ≡ T′ i
+  pub hand-overs : (p c : ℕ) → These p → These c → waits p c ≡ waits′ p c
+
+pub alike-self : (These : ℕ → Type 0) (T : ℕ → ℕ) (waits : Waits) → Alike These T T waits waits
+alike-self These T waits = record { periods = λ i l. refl; hand-overs = λ p c lp lc. refl }
+
+module _ {These : ℕ → Type 0} {T T′ : ℕ → ℕ} {waits waits′ : Waits} (alike : Alike These T T′ waits waits′) where
+  module _ (table table′ : Table) (same : (i k : ℕ) → These i → table i k ≡ table′ i k) where
+    pub walk-delay-same : (p : ℕ) (rest : List ℕ) (r : ℕ) → Along These p rest
         → walkDelay T waits table p rest r ≡ walkDelay T′ waits′ table′ p rest r
     unfolding walkDelay walkNext
-    walk-delay-same p [] r l = rw (alike .periods p l, same p (r / T′ p) l)
-    walk-delay-same p (c ∷ rest) r l =
+    walk-delay-same p [] r on = rw (alike .periods p on, same p (r / T′ p) on)
+    walk-delay-same p (c ∷ rest) r on =
         rw (
-          alike .periods p (l .0),
-          alike .periods c known,
-          alike .hand-overs p c (l .0) known,
-          same p (r / T′ p) (l .0),
-          walk-delay-same c rest (walkNext T′ waits′ table′ p c r) (l .2),
+          alike .periods p (on .0),
+          alike .periods c next,
+          alike .hand-overs p c (on .0) next,
+          same p (r / T′ p) (on .0),
+          walk-delay-same c rest (walkNext T′ waits′ table′ p c r) (on .1),
         )
       where
-        known : c < n
-        known = chain-first n c rest (l .2)
+        next : These c
+        next = along-first These c rest (on .1)
 
-    module _ (H p : ℕ) (rest : List ℕ) (l : ChainOf n p rest) where
+    module _ (H p : ℕ) (rest : List ℕ) (on : Along These p rest) where
       first-period : T p ≡ T′ p
-      first-period = alike .periods p (chain-first n p rest l)
+      first-period = alike .periods p (along-first These p rest on)
 
       delays-same : (k : ℕ) → walkDelay T waits table p rest (k * T p) ≡ walkDelay T′ waits′ table′ p rest (k * T′ p)
-      delays-same k = ap (λ x. walkDelay T waits table p rest (k * x)) first-period ∙ walk-delay-same p rest (k * T′ p) l
+      delays-same k = ap (λ x. walkDelay T waits table p rest (k * x)) first-period ∙ walk-delay-same p rest (k * T′ p) on
 
       pub walk-worst-same : walkWorst T waits table H p rest ≡ walkWorst T′ waits′ table′ H p rest
       unfolding walkWorst
@@ -226,18 +255,18 @@ module _ {n : ℕ} {T T′ : ℕ → ℕ} {waits waits′ : Waits} (alike : Alik
       walk-worst-release-same =
           ap₂ _*_ (ap₂ least (ap (λ x. H / x) first-period) (fun-ext (λ k. ap₂ eqb (delays-same k) walk-worst-same))) first-period
 
-  pub walk-bound-same : (R R′ : ℕ → ℕ) → ((i : ℕ) → i < n → R i ≡ R′ i) → (p : ℕ) (rest : List ℕ) → ChainOf n p rest
+  pub walk-bound-same : (R R′ : ℕ → ℕ) → ((i : ℕ) → These i → R i ≡ R′ i) → (p : ℕ) (rest : List ℕ) → Along These p rest
       → walkBound T waits R p rest ≡ walkBound T′ waits′ R′ p rest
   unfolding walkBound
-  walk-bound-same R R′ same p [] l = same p l
-  walk-bound-same R R′ same p (c ∷ rest) l =
+  walk-bound-same R R′ same p [] on = same p on
+  walk-bound-same R R′ same p (c ∷ rest) on =
       rw (
-        alike .periods p (l .0),
-        alike .periods c known,
-        alike .hand-overs p c (l .0) known,
-        same p (l .0),
-        walk-bound-same R R′ same c rest (l .2),
+        alike .periods p (on .0),
+        alike .periods c next,
+        alike .hand-overs p c (on .0) next,
+        same p (on .0),
+        walk-bound-same R R′ same c rest (on .1),
       )
     where
-      known : c < n
-      known = chain-first n c rest (l .2)
+      next : These c
+      next = along-first These c rest (on .1)

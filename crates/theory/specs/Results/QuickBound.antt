@@ -10,7 +10,7 @@ use Rattle.theory.specs.Model.Responses.{response, taskResponse, Accepte
 use Rattle.theory.specs.Model.Chain.{Chain, outranked, bound, PathEnds}
 use Rattle.theory.specs.Model.Flag.{flagBound, fromFlag, FlagWithin}
 use Rattle.theory.specs.Model.Recurrence.{quickResponse, Passing, EverLate}
-use Rattle.theory.specs.Analysis.WalkLaws.{alike-self, walk-bound-same}
+use Rattle.theory.specs.Analysis.WalkLaws.{chain-along, alike-self, walk-bound-same}
 use Rattle.theory.specs.Analysis.QuickLaws.{late-passing, passing-late, quick-response-first, quick-response-greatest, quick-response-task}
 use Rattle.theory.specs.Results.Demand3.{no-schedule-exceeds, sampling-within-bound}
 use Rattle.theory.specs.Results.Flags.{no-flag-exceeds-bound}
@@ -28,8 +28,9 @@ quick-response-of-all good i known = (quick-response-greatest good i known, omeg
 pub quick-bound-same : {ts : List Task} (good : Proper ts) (p : ℕ) (rest : List ℕ) (chain : Chain ts p rest)
     → bound ts (quickResponse ts) p rest ≡ bound ts (taskResponse ts) p rest
 unfolding bound
-quick-bound-same {ts} good =
-    walk-bound-same (alike-self (length ts) (period ts) (outranked ts)) (quickResponse ts) (taskResponse ts) (quick-response-task good)
+quick-bound-same {ts} good p rest chain =
+    walk-bound-same (alike-self (λ i. i < length ts) (period ts) (outranked ts)) (quickResponse ts) (taskResponse ts)
+    (quick-response-task good) p rest (chain-along (length ts) p rest chain)
 
 -- 4. No schedule exceeds the bound. Where no task is late, for all demands of 1 to C, every run that is a schedule for them and every job of
 -- the chain's first task: its path exists, and ends no later than the bound after its release.

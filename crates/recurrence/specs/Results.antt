@@ -17,11 +17,11 @@ use Rattle.theory.specs.Analysis.QuickLaws.{within-accepted}
 use Rattle.theory.specs.Results.QuickBound as theory
 use Rattle.answers.specs.Answers.{Answer, given, refused, Judgement, fine, also}
 use Rattle.answers.specs.AnswerLaws.{refused-given, also-given}
-use Rattle.answers.specs.NumberLaws.{when-never}
+use Rattle.answers.specs.NumberLaws.{when-only}
+use Rattle.sheet.specs.NumberLaws.{judge-never}
 use Rattle.sheet.specs.declared.Sheet.{Sheet}
 use Rattle.sheet.specs.Calls.{judgeOf}
 use Rattle.sheet.specs.Fields.{outside}
-use Rattle.sheet.specs.NeverLaws.{judge-never}
 use Rattle.sheet.specs.SoundLaws.{judged-sound}
 use Rattle.sheet.specs.Tasks.{tasksOf, chainCount, lacks, chainOf, firstOf, restOf}
 use Rattle.sheet.specs.Lateness.{lateness}
@@ -109,8 +109,8 @@ module _ (s : Sheet) (number : ℕ) where
 
       go : (j : Judgement) → judgeOf s ≡ j → (k : Judgement) → lacks s number ≡ k
           → also j (also k (rest (passingGreatest ts (length ts)))) ≡ refused 15 (i ∷ []) → LateWhen s number i
-      go (refused n vs) q k p e = early (judge-never 15 (omega arith) (omega arith) (λ z. omega arith) s .differs q) e
-      go (given u) q (refused n vs) p e = early (when-never (outside 1 (chainCount s) number) 17 (λ z. omega arith) .differs p) e
+      go (refused n vs) q k p e = early (judge-never 15 (omega arith) (omega arith) (λ z. omega arith) s .holds q) e
+      go (given u) q (refused n vs) p e = early (when-only {P = λ m. m ≢ 15} (outside 1 (chainCount s) number) 17 (λ z. omega arith) .holds p) e
       go (given u) q (given v) k e = pick (passingGreatest ts (length ts)) refl e
         where
           pick : (x : Slot) → passingGreatest ts (length ts) ≡ x → rest x ≡ refused 15 (i ∷ []) → LateWhen s number i

@@ -17,7 +17,7 @@ ghost use Rattle.sheet.specs.Calls.{places, unused, packed, endOf, taskB
 ghost use Rattle.sheet.specs.Conversions.{limited, stays};
 ghost use Rattle.sheet.specs.Order.{sheetSpelt, taskAt, chainSpelt, begins, chainBits, kindBy, opening, chainOpening, suiteOpening, taskOpening, entryOpening, next, taskIn, chainIn, entryIn, nth, entryJudged, judgedBy};
 ghost use Rattle.sheet.specs.Answers.{blank};
-ghost use Rattle.sheet.specs.Promises.{JudgePromise, ReadPromise, WritePromise, WrittenRefusalPromise, ToSecondPromise, ToFirstPromise, NumberedPromise};
+ghost use Rattle.sheet.specs.Promises.{JudgePromise, ReadPromise, WritePromise, WrittenRefusalPromise, ToSecondPromise, ToFirstPromise, ChainCountPromise, NumberedPromise};
 ghost use Rattle.sheet.specs.declared.Field.the-variants.{Mark, Rank, Limit, Length};
 
 pub struct Chain {
@@ -843,6 +843,16 @@ pub fn to_first(s: Sheet) -> Reading
         verdict: back,
         sheet,
     }
+}
+
+// How many chains a sheet has; an old sheet has one.
+pub fn chain_count(s: Sheet) -> u8
+    ensures { λ r. ⌜ ChainCountPromise s r ⌝ }
+{
+    if s.edition == 1 {
+        return 1;
+    }
+    s.suite
 }
 
 // 17 for a chain number that the sheet lacks; an old sheet has chain 1 alone.

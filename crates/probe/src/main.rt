@@ -216,12 +216,16 @@ fn put_comparison(out: &mut [u8], found: Comparison) -> usize {
     }
 }
 
+fn put_both(out: &mut [u8], at: usize, bounds: Bounds) -> usize {
+    put_words(out, at, &[bounds.sampling_bound, bounds.bound])
+}
+
 fn put_bounds(out: &mut [u8], at: usize, chains: [Bounds; 8]) -> usize {
     let mut place = at;
     let mut i = 0;
     while i < 8 {
         let bounds = chains[i];
-        place = put_words(&mut *out, place, &[bounds.sampling_bound, bounds.bound]);
+        place = put_both(&mut *out, place, bounds);
         i += 1;
     }
     place

@@ -297,7 +297,7 @@ fn lent(r: &mut Random, call: Call, sheet: &Handed) -> Lent {
             };
             Lent::Bytes(fields(&other))
         }
-        Call::Judge | Call::Sizes | Call::QuickBound | Call::ToSecond | Call::ToFirst | Call::Numbered => Lent::Bytes(vec![]),
+        Call::Judge | Call::Sizes | Call::QuickBound | Call::ToSecond | Call::ToFirst | Call::Numbered | Call::ChainCount | Call::QuickSuite => Lent::Bytes(vec![]),
         _ => table(r, seen.and_then(|s| sizes(&s).ok()).map(|z| z.jobs)),
     }
 }

@@ -1,7 +1,7 @@
 //! Requests of crates/probe, what the model answers to each, and the probe itself as a process.
 
 use crate::lower::{compare, Comparison};
-use crate::recurrence::quick;
+use crate::recurrence::{quick, quick_suite};
 use crate::schedule::Worked;
 use crate::sheet::{judge, numbered, read, to_first, to_second, write, Chain, Memory, Task};
 use crate::telltale::{self, History};
@@ -37,13 +37,15 @@ pub enum Call {
     Numbered,
     Telltale,
     Compare,
+    ChainCount,
+    QuickSuite,
 }
 
 use Call::*;
 
-pub const CALLS: [Call; 24] = [
+pub const CALLS: [Call; 26] = [
     Gcd, Lcm, Up, Magnitude, Number, Put, Read, Greatest, Judge, Write, Sizes, Responses, TaskResponses, Delay, Margin, DefaultMargin,
-    Figures, QuickBound, Suite, ToSecond, ToFirst, Numbered, Telltale, Compare,
+    Figures, QuickBound, Suite, ToSecond, ToFirst, Numbered, Telltale, Compare, ChainCount, QuickSuite,
 ];
 
 impl Call {
@@ -52,13 +54,13 @@ impl Call {
         let fields = (1..=9).chain([13, 16, 17]);
         match self {
             Gcd | Lcm | Up | Magnitude | Number | Put | Greatest | Telltale => vec![],
-            Read | Judge | ToSecond | Numbered => fields.collect(),
+            Read | Judge | ToSecond | Numbered | ChainCount => fields.collect(),
             ToFirst => fields.chain([18]).collect(),
             Write => fields.chain([14]).collect(),
             Sizes => fields.chain([10, 11]).collect(),
             Responses | TaskResponses | Margin | DefaultMargin | Figures | Suite => fields.chain([10, 11, 14, 15]).collect(),
             Delay => fields.chain([10, 11, 12, 14, 15]).collect(),
-            QuickBound => fields.chain([15]).collect(),
+            QuickBound | QuickSuite => fields.chain([15]).collect(),
             Compare => fields.chain([10, 11, 15]).collect(),
         }
     }
@@ -317,6 +319,8 @@ fn of_sheet(call: Call, number: u32, chain: u8, s: &Memory, buffer: &mut [u8], t
         DefaultMargin => chain::default_margin(s, chain, table).map(signed),
         Figures => chain::figures(s, chain, table).map(|(w, f)| [totals(&w), chain_values(&f), greatest(&w)].concat()),
         QuickBound => quick(s, chain).map(|q| [vec![q.sampling_bound, q.bound], sixteen(q.responses)].concat()),
+        QuickSuite => quick_suite(s).map(|(responses, bounds)| [sixteen(responses), sixteen(bounds.concat())].concat()),
+        ChainCount => Ok(vec![s.chain_count().into()]),
         Suite => chain::suite(s, table).map(|(w, chains)| [totals(&w), greatest(&w), eight(&totals(&w), &chains)].concat()),
         ToSecond => to_second(s).map(|s| sheet_values(&s)),
         ToFirst => to_first(s).map(|s| sheet_values(&s)),
@@ -352,6 +356,7 @@ fn values_of_a_refusal(q: &Request) -> Vec<u32> {
         Read => sheet_values(&Memory::default()),
         ToSecond | ToFirst if q.sheet.memory().is_some() => sheet_values(&Memory::default()),
         TaskResponses | Figures | QuickBound if q.sheet.memory().is_some() => vec![0; 16],
+        QuickSuite if q.sheet.memory().is_some() => vec![0; 32],
         Suite if q.sheet.memory().is_some() => [vec![0; 16], eight(&[], &[])].concat(),
         Compare => match (q.sheet.memory(), &q.lent) {
             (Some(s), Lent::Bytes(other)) => match compare(&s, &sheet_in(other)) {

@@ -37,17 +37,29 @@ pub struct Quick {
     pub bound: u32,
 }
 
-/// "10, 11 and 14 do not occur in this call; 15 names the greatest-ranked task whose value passes its period."
-pub fn quick(s: &Memory, number: u8) -> Result<Quick, Refusal> {
-    judge(s)?;
-    numbered(s, number)?;
-    let (tasks, chain) = (s.tasks(), s.chain(number));
+/// "15 names the greatest-ranked task whose value passes its period."
+fn responses(tasks: &[Task]) -> Result<Vec<u32>, Refusal> {
     let values: Vec<Option<u32>> = (0..tasks.len()).map(|i| response(tasks, i)).collect();
     let late = (0..tasks.len()).filter(|&i| values[i].is_none()).max_by_key(|&i| tasks[i].rank);
     if let Some(late) = late {
         return Err(Refusal::with(15, late));
     }
-    let responses: Vec<u32> = values.into_iter().flatten().collect();
+    Ok(values.into_iter().flatten().collect())
+}
+
+/// "10, 11 and 14 do not occur in this call".
+pub fn quick(s: &Memory, number: u8) -> Result<Quick, Refusal> {
+    judge(s)?;
+    numbered(s, number)?;
+    let (tasks, chain) = (s.tasks(), s.chain(number));
+    let responses = responses(tasks)?;
     let sampling_bound = quick_bound(tasks, chain, &responses);
     Ok(Quick { sampling_bound, bound: sampling_bound + wait(tasks, chain), responses })
+}
+
+/// R of each task, and both bounds of each chain: what is said of every chain that the sheet has.
+pub fn quick_suite(s: &Memory) -> Result<(Vec<u32>, Vec<Vec<u32>>), Refusal> {
+    let first = quick(s, 1)?;
+    let bounds = (1..=s.chain_count()).map(|number| quick(s, number).map(|q| vec![q.sampling_bound, q.bound])).collect::<Result<_, _>>()?;
+    Ok((first.responses, bounds))
 }

@@ -660,6 +660,7 @@ fn chain_numbers() -> Vec<Request> {
             requests.extend(calls.map(|(call, first, room)| asked(call, first, table(room, &[7]))));
             requests.extend([20, 4].map(|room| asked(Figures, 0, table(room, &[7]))));
         }
+        requests.extend([ChainCount, QuickSuite].map(|call| request(call, [0; 3], Handed::Memory(s), nothing_lent())));
         requests.extend([20, 4].map(|room| request(Suite, [0; 3], Handed::Memory(s), table(room, &[7]))));
     }
     requests

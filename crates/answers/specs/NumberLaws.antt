@@ -80,28 +80,10 @@ module _ {P : ℕ → Type 0} where
 
 -- ---- a number that is never given
 
--- Where an answer is refused, the number is another.
-pub record Never {A : Type 0} (n : ℕ) (a : Answer A) : Type 0 where
-  pub differs : {number : ℕ} {values : List ℕ} → a ≡ refused number values → number ≢ n
+-- Where P says more than Q.
+pub only-wider : {A : Type 0} {P Q : ℕ → Type 0} {a : Answer A} → ((number : ℕ) → P number → Q number) → Only P a → Only Q a
+only-wider h n = record { holds = λ e. h _ (n .holds e) }
 
-module _ {A : Type 0} {n : ℕ} where
-  pub given-never : (x : A) → Never n (given x)
-  given-never x = record { differs = λ e. refused-given (sym e) }
-
-  pub refused-never : (number : ℕ) (values : List ℕ) → number ≢ n → Never {A = A} n (refused number values)
-  refused-never number values d = record { differs = λ e q. d (same e ∙ q) }
-    where
-      same : {m : ℕ} {vs : List ℕ} → _≡_ {A = Answer A} (refused number values) (refused m vs) → number ≡ m
-      same e = cc
-
-module _ {n : ℕ} where
-  pub when-never : (b : Bool) (number : ℕ) → number ≢ n → Never n (when b number)
-  when-never true number d = refused-never number [] d
-  when-never false number d = given-never tt
-
-  pub after-never : {A B : Type 0} {a : Answer A} {next : A → Answer B} → Never n a → ((x : A) → Never n (next x)) → Never n (after a next)
-  after-never {a = given x} d m = m x
-  after-never {a = refused number values} d m = refused-never number values (d .differs refl)
-
-  pub also-never : {A : Type 0} {j : Judgement} {a : Answer A} → Never n j → Never n a → Never n (also j a)
-  also-never d m = after-never d (λ u. m)
+-- Where an answer is refused, the number is not n.
+abbrev pub Never : {A : Type 0} → ℕ → Answer A → Type 0
+Never n = Only (λ number. number ≢ n)

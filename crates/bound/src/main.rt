@@ -1,27 +1,24 @@
 // The quick bound of each chain of one timing sheet, read from standard input, with no table and whatever the hyperperiod: the response of
 // each task, then the chains, each with its bound; or the refusal.
 use answers::Verdict;
-use recurrence::Quick;
+use recurrence::Bounds;
 use sheet::Sheet;
 
-// Up to the first number that the sheet lacks.
-fn print_bounds(s: Sheet) {
-    let mut k = 0u8;
+// The chains that the sheet has, each with its bound.
+fn print_bounds(s: Sheet, bounds: [Bounds; 8]) {
+    let n = sheet::chain_count(s) as usize;
+    let mut k = 0usize;
     while k < 8 {
-        let q = recurrence::bound(s, k + 1);
-        let a = q.answer;
-        let Quick::Of(bounds) = a else {
+        if n <= k {
             return;
-        };
-        let j = k as usize;
-        page::print_chain(s.chains[j]);
-        page::print_number(b"bound ", bounds.bound);
+        }
+        page::print_chain(s.chains[k]);
+        page::print_number(b"bound ", bounds[k].bound);
         io::write_all(1, b"\n");
         k += 1;
     }
 }
 
-// A refusal of the first chain's bound is that of every chain, so it stands alone.
 fn answer(bytes: &[u8]) {
     let r = sheet::read(bytes);
     let v = r.verdict;
@@ -29,14 +26,15 @@ fn answer(bytes: &[u8]) {
         return page::print_refusal(answers::refusal_of(v));
     };
     let s = r.sheet;
-    let q = recurrence::bound(s, 1);
+    let q = recurrence::suite(s);
     let a = q.answer;
-    let Quick::Of(_) = a else {
-        return page::print_refusal(recurrence::bound_refusal(a));
+    let Verdict::Fine = a else {
+        return page::print_refusal(answers::refusal_of(a));
     };
     let responses = q.responses;
     page::print_tasks(s, responses);
-    print_bounds(s);
+    let bounds = q.chains;
+    print_bounds(s, bounds);
 }
 
 // What lies past the 179th byte never changes the reader's answer, so a buffer of 4,096 serves inputs of any length.

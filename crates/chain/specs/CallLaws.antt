@@ -8,6 +8,7 @@ use lib.Dec.{ltb, leb}
 use lib.IntN.{ℤ}
 use lib.ListN.{length}
 use borrow.Author.Tests.{lt-ltb, le-ltb, le-leb, lt-leb, ne-eqb, ltb-false}
+use Rattle.theory.specs.Model.Flag.{fromFlag}
 use Rattle.theory.specs.declared.Task.{Task}
 use Rattle.theory.specs.Model.Schedule.{period, release}
 use Rattle.theory.specs.Model.Responses.{hyperperiod}
@@ -32,7 +33,7 @@ use Rattle.schedule.specs.Results.{responses-given, given-taken}
 use Rattle.schedule.specs.Taken.{Taken, Holds}
 use Rattle.schedule.specs.RowLaws.{filled-holds}
 use Rattle.chain.specs.declared.answer.Summary.{Summary}
-use Rattle.chain.specs.Calls.{delayAt, figureOf, quickBound, fromFlag, less, noRelease, named, mostLimit, reportLimit, summaryAt, delayOf, marginOf, figuresOf}
+use Rattle.chain.specs.Calls.{delayAt, figureOf, quickBound, less, noRelease, named, mostLimit, reportLimit, summaryAt, delayOf, marginOf, figuresOf}
 use Rattle.chain.specs.Conditions.{TakenChain, Lacking, overLimit}
 use Rattle.chain.specs.NumberLaws.{named-never-15, over-never-15}
 use Rattle.chain.specs.SuiteLaws.{report-most}
@@ -56,13 +57,13 @@ module _ {A B : Type 0} (s : Sheet) (old : List ℕ) {source : Answer A} (next :
 -- A refusal of a field, of the chain's number or of H and J leaves the table untouched,
 module _ (s : Sheet) (old : List ℕ) (r : Refusal) where
   pub named-untouched : (number : ℕ) → named s number ≡ refusal r → old ≡ tableAfter (named s number) (tasksOf s) old
-  named-untouched number e = rw (e, ne-eqb (numberIn r) 15 (named-never-15 s number .differs e))
+  named-untouched number e = rw (e, ne-eqb (numberIn r) 15 (named-never-15 s number .holds e))
 
   pub sizes-untouched : sizesOf s ≡ refusal r → old ≡ tableAfter (sizesOf s) (tasksOf s) old
-  sizes-untouched e = rw (e, ne-eqb (numberIn r) 15 (sizes-never-15 s .differs e))
+  sizes-untouched e = rw (e, ne-eqb (numberIn r) 15 (sizes-never-15 s .holds e))
 
   pub over-untouched : (number : ℕ) → overLimit s number ≡ refusal r → old ≡ tableAfter (overLimit s number) (tasksOf s) old
-  over-untouched number e = rw (e, ne-eqb (numberIn r) 15 (over-never-15 s number .differs e))
+  over-untouched number e = rw (e, ne-eqb (numberIn r) 15 (over-never-15 s number .holds e))
 
 -- and so does 12.
 pub answers-number : {A : Type 0} {definition : Answer A} (n : ℕ) (s : Sheet) (old : List ℕ) → n ≤ 14 → definition ≡ refused n [] → AnswersAs definition s old (refused n []) old
@@ -174,8 +175,8 @@ pub record FiguresGiven (s : Sheet) (number room : ℕ) (x : Summary) : Type 0 w
   pub totals-are : responsesOf s room ≡ given (x .totals)
   pub sampling-is : x .sampling ≡ figureOf (tasksOf s) (chainOf s number)
   pub quick-is : x .«sampling_bound» ≡ quickBound (tasksOf s) (chainOf s number)
-  pub worst-is : x .worst ≡ fromFlag (tasksOf s) (chainOf s number) (x .sampling .ticks)
-  pub bound-is : x .bound ≡ fromFlag (tasksOf s) (chainOf s number) (x .«sampling_bound»)
+  pub worst-is : x .worst ≡ fromFlag (tasksOf s) (firstOf (chainOf s number)) (x .sampling .ticks)
+  pub bound-is : x .bound ≡ fromFlag (tasksOf s) (firstOf (chainOf s number)) (x .«sampling_bound»)
   pub margin-is : x .margin ≡ less (reportLimit s number) (x .worst)
 
 pub figures-given : (s : Sheet) (number room : ℕ) {x : Summary} → figuresOf s number room ≡ given x → FiguresGiven s number room x

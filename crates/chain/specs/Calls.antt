@@ -9,7 +9,7 @@ use lib.ListN.{replicate}
 use Rattle.theory.specs.declared.Task.{Task}
 use Rattle.theory.specs.Model.Schedule.{period}
 use Rattle.theory.specs.Model.Responses.{response, hyperperiod, taskResponse}
-use Rattle.theory.specs.Model.Flag as flag
+use Rattle.theory.specs.Model.Flag.{fromFlag}
 use Rattle.theory.specs.Model.Chain.{delay, sampling, samplingRelease, bound}
 use Rattle.sheet.specs.declared.Sheet.{Sheet}
 use Rattle.answers.specs.declared.Refusal.{Refusal}
@@ -43,11 +43,6 @@ figureOf ts chain = record {
 
 abbrev pub quickBound : List Task → List ℕ → ℕ
 quickBound ts chain = bound ts (taskResponse ts) (firstOf chain) (restOf chain)
-
--- "The report's worst and bound now add T − 1 of the first task; every margin now uses that worst" (document 02, P2): what counts from a
--- release, counted from a flag.
-abbrev pub fromFlag : List Task → List ℕ → ℕ → ℕ
-fromFlag ts chain ticks = flag.fromFlag ts (firstOf chain) ticks
 
 -- "Margin is a limit less the worst figure, and may fall below zero."
 abbrev pub less : ℕ → ℕ → ℤ
@@ -83,15 +78,16 @@ abbrev pub reportLimit : Sheet → ℕ → ℕ
 reportLimit s number = cond (eqb (s .edition) 1) oldLimit (limitOf s number)
 
 -- "one answer with sampling figure, its release, bound and idle" (document 02, P8), and what a report says besides: H, J, and from a flag on
--- "the worst figure", "the bound", and the margin under a limit.
+-- "the worst figure", "the bound", and the margin under a limit. "The report's worst and bound now add T − 1 of the first task; every margin now
+-- uses that worst" (P2).
 abbrev pub summaryOf : List Task → List ℕ → ℕ → Totals → Summary
 summaryOf ts chain limit totals = record {
   totals = totals;
   sampling = figureOf ts chain;
   «sampling_bound» = quickBound ts chain;
-  worst = fromFlag ts chain (figureOf ts chain .ticks);
-  bound = fromFlag ts chain (quickBound ts chain);
-  margin = less limit (fromFlag ts chain (figureOf ts chain .ticks));
+  worst = fromFlag ts (firstOf chain) (figureOf ts chain .ticks);
+  bound = fromFlag ts (firstOf chain) (quickBound ts chain);
+  margin = less limit (fromFlag ts (firstOf chain) (figureOf ts chain .ticks));
 }
 
 abbrev pub summaryAt : Sheet → ℕ → Totals → Summary

@@ -8,6 +8,7 @@ use lib.ListN.{length, getD, length-drop}
 use Rattle.arith.specs.Whole.{gcd, up}
 use Rattle.arith.specs.WholeLaws.{gcd-divides-right, gcd-pos, up-near}
 use Rattle.arith.specs.RangeLaws.{maximum-least}
+use Rattle.theory.specs.Model.Flag.{fromFlag}
 use Rattle.theory.specs.declared.Task.{Task}
 use Rattle.theory.specs.Model.Schedule.{period, release}
 use Rattle.theory.specs.Model.Chain.{Chain, Waits, Table, walkNext, walkDelay, walkBound, outranked, delay, sampling, bound}
@@ -17,7 +18,7 @@ use Rattle.theory.specs.Analysis.Largest.{Along, along-first, along-chain, Smal
 use Rattle.theory.specs.Analysis.ChainLaws.{chain-head}
 use Rattle.sheet.specs.Tasks.{firstOf, restOf}
 use Rattle.chain.specs.Conditions.{mostPeriod, mostWait, mostFigure, mostWorst, TakenChain}
-use Rattle.chain.specs.Calls.{figureOf, quickBound, fromFlag}
+use Rattle.chain.specs.Calls.{figureOf, quickBound}
 
 -- What holds of every entry holds along the chain.
 pub along-entries : (P : ℕ → Type 0) (chain : List ℕ) → 0 < length chain → ((j : ℕ) → j < length chain → P (getD chain j 0)) → Along P (firstOf chain) (restOf chain)
@@ -100,5 +101,5 @@ module _ {ts : List Task} {chain : List ℕ} (taken : TakenChain ts chain) where
       }
 
   -- and from a flag on, a period more.
-  pub worst-most : fromFlag ts chain (figureOf ts chain .ticks) ≤ mostWorst
+  pub worst-most : fromFlag ts (firstOf chain) (figureOf ts chain .ticks) ≤ mostWorst
   worst-most = omega (arith, sampling-most, taken .tasks .period-most p known)

@@ -3,11 +3,10 @@ use Prim.Native.Nat.{ℕ}
 use native.Mathlib.Omega.{arith}
 use lib.Dec.{ltb}
 use Rattle.answers.specs.Answers.{Answer, given, after, also, refusal}
-use Rattle.answers.specs.NumberLaws.{Numbered, given-numbered, when-numbered, after-numbered, also-numbered, Never, refused-never, when-never, after-never, also-never}
+use Rattle.answers.specs.NumberLaws.{Numbered, given-numbered, when-numbered, after-numbered, also-numbered, Never, refused-only, when-only, after-only, also-only}
 use Rattle.sheet.specs.declared.Sheet.{Sheet}
 use Rattle.sheet.specs.Fields.{outside}
-use Rattle.sheet.specs.NumberLaws.{judge-numbered}
-use Rattle.sheet.specs.NeverLaws.{judge-never}
+use Rattle.sheet.specs.NumberLaws.{judge-never, judge-numbered}
 use Rattle.sheet.specs.Tasks.{tasksOf, chainCount, chainOf}
 use Rattle.schedule.specs.declared.answer.Totals.{Totals}
 use Rattle.schedule.specs.declared.answer.Size.{Size}
@@ -20,10 +19,10 @@ module _ (s : Sheet) (number : ℕ) where
   -- 15 is given for a late task alone.
   pub named-never-15 : Never 15 (named s number)
   named-never-15 =
-      also-never (judge-never 15 (omega arith) (omega arith) (λ e. omega arith) s) (when-never (outside 1 (chainCount s) number) 17 (λ e. omega arith))
+      also-only (judge-never 15 (omega arith) (omega arith) (λ e. omega arith) s) (when-only (outside 1 (chainCount s) number) 17 (λ e. omega arith))
 
   pub over-never-15 : Never 15 (overLimit s number)
-  over-never-15 = also-never named-never-15 (after-never (sizes-never-15 s) (λ size. refused-never 13 _ (λ e. omega arith)))
+  over-never-15 = also-only named-never-15 (after-only (sizes-never-15 s) (λ size. refused-only 13 _ (λ e. omega arith)))
 
   named-numbered : {A : Type 0} {rest : Answer A} → Numbered 2 17 rest → Numbered 2 17 (also (named s number) rest)
   named-numbered n = also-numbered (also-numbered (judge-numbered s) (when-numbered (outside 1 (chainCount s) number) 17 (omega arith) (omega arith))) n

@@ -4,6 +4,7 @@ use mathlib.Core.List.{List, [], _∷_}
 use Prim.Native.Nat.{ℕ, _≤_, _<_}
 use native.Mathlib.Omega.{arith}
 use lib.ListN.{length}
+use Rattle.theory.specs.Model.Flag.{fromFlag}
 use Rattle.theory.specs.declared.Task.{Task}
 use Rattle.theory.specs.Model.Schedule.{Proper, rank}
 use Rattle.theory.specs.Model.Responses.{taskResponse}
@@ -26,13 +27,13 @@ use Rattle.recurrence.specs.declared.answer.Bounds.{Bounds}
 use Rattle.recurrence.specs.Calls.{quickOf, responsesAfter}
 use Rattle.recurrence.specs.Results.{quick-15, given-quick, late-quick}
 use Rattle.chain.specs.declared.answer.Summary.{Summary}
-use Rattle.chain.specs.Calls.{quickBound, fromFlag, figuresOf}
+use Rattle.chain.specs.Calls.{quickBound, figuresOf}
 use Rattle.chain.specs.CallLaws.{figures-given}
 
 module _ (s : Sheet) (number : ℕ) where
   -- A bound of this many ticks, from a release on, and with the flag's wait.
   abbrev pub withWait : ℕ → Bounds
-  withWait b = record { «sampling_bound» = b; bound = fromFlag (tasksOf s) (chainOf s number) b }
+  withWait b = record { «sampling_bound» = b; bound = fromFlag (tasksOf s) (firstOf (chainOf s number)) b }
 
   module _ (known : lacks s number ≡ fine) (room : ℕ) where
     -- Where the table is filled the quick bound is document 01's, from the R of each task,

@@ -27,6 +27,7 @@ use Rattle.answers.specs.AnswerLaws.{when-fine}
 use Rattle.sheet.specs.PlaceLaws.{places-taken}
 use Rattle.sheet.specs.SoundLaws.{inside, judged-sound}
 use Rattle.sheet.specs.Tasks.{tasksOf, chainCount, lacks, chainOf, firstOf, restOf}
+use Rattle.sheet.specs.TaskLaws.{chains-most}
 use Rattle.schedule.specs.declared.answer.Totals.{Totals}
 use Rattle.schedule.specs.Calls.{responsesOf}
 use Rattle.schedule.specs.Results.{responses-given}
@@ -35,7 +36,6 @@ use Rattle.chain.specs.declared.answer.Summary.{Summary}
 use Rattle.chain.specs.Calls.{reportLimit, summaryAt, noSummary, summariesAfter, delayOf, marginOf, figuresOf}
 use Rattle.chain.specs.Conditions.{TakenChain}
 use Rattle.chain.specs.MarginLaws.{kept-within}
-use Rattle.chain.specs.SuiteLaws.{suite-most}
 use Rattle.chain.specs.ReleaseLaws.{job-release}
 use Rattle.chain.specs.CallLaws.{figures-known, margin-asked, delay-release, delay-given, figures-given, margin-given}
 use Rattle.chain.specs.Promises.{SuitePromise}
@@ -212,7 +212,7 @@ suite-figures s old r table promise {totals} answer number known =
     place =
         ap (λ xs. getD xs (number - 1) noSummary) (promise .2 ∙ ap (λ a. summariesAfter a s) answer)
         ∙ places-taken 8 noSummary (λ c. summaryAt s (c + 1) totals) (chainCount s) noSummary (number - 1) (omega (arith, count))
-        (omega (arith, count, suite-most (judged-sound s (responses-given s (length old) answer .judged-fine))))
+        (omega (arith, count, chains-most (judged-sound s (responses-given s (length old) answer .judged-fine))))
         ∙ ap (λ n. summaryAt s n totals) (omega (arith, count))
 
 -- ---- `delay`

@@ -1,31 +1,18 @@
--- The chains of a sheet that is judged fine: their numbers, how many there are, and the limits that a report goes by.
+-- The limits that a report goes by.
 use mathlib.Core.Path.{_≡_}
 use mathlib.Core.Bool.{Bool, true, false, cond}
 use Prim.Native.Nat.{ℕ, _-_, _≤_, _<_}
 use native.Mathlib.Omega.{arith}
 use lib.Dec.{eqb}
-use borrow.Author.Tests.{le-ltb}
 use Rattle.answers.specs.Answers.{fine}
 use Rattle.sheet.specs.declared.Sheet.{Sheet}
 use Rattle.sheet.specs.Conversions.{oldLimit}
-use Rattle.sheet.specs.Fields.{Kind, old, new, kindOf, chains, value}
+use Rattle.sheet.specs.Fields.{old, new, chains, value}
 use Rattle.sheet.specs.EachLaws.{If}
 use Rattle.sheet.specs.Sound.{Sound}
-use Rattle.sheet.specs.Tasks.{chainCount, lacks, limitOf}
-use Rattle.sheet.specs.TaskLaws.{chain-count, chain-place}
+use Rattle.sheet.specs.Tasks.{lacks, limitOf}
+use Rattle.sheet.specs.TaskLaws.{chain-place}
 use Rattle.chain.specs.Calls.{mostLimit, reportLimit}
-
--- A number from 1 to the count is that of a chain.
-pub number-known : (s : Sheet) (number : ℕ) → 1 ≤ number → number ≤ chainCount s → lacks s number ≡ fine
-number-known s number l m = rw (le-ltb number 1 l, le-ltb (chainCount s) number m)
-
--- There are at most eight.
-pub suite-most : {s : Sheet} → Sound s → chainCount s ≤ 8
-suite-most {s} sound = rw (chain-count sound) (go (kindOf (value s)))
-  where
-    go : (kind : Kind) → chains kind (value s) ≤ 8
-    go old = omega arith
-    go new = omega arith
 
 -- A limit that a report goes by is allowed.
 pub report-most : {s : Sheet} → Sound s → (number : ℕ) → lacks s number ≡ fine → reportLimit s number ≤ mostLimit

@@ -254,8 +254,8 @@ fn first_period(s: Sheet, number: u8) -> u32
 {
     let c = chain_of(s, number);
     let chain = c.entries;
-    let p = chain[0] as usize;
-    s.tasks[p].period
+    let first = chain[0] as usize;
+    s.tasks[first].period
 }
 
 // What counts from a release of the chain's first task, counted from a flag: "add T − 1 of the first task".
@@ -408,16 +408,6 @@ pub fn figures(s: Sheet, number: u8, table: &mut [u32]) -> TaskFigures
     }
 }
 
-// How many chains the sheet has.
-fn chain_count(s: Sheet) -> u8
-    ensures { λ r. ⌜ r ≡ chainCount s ⌝ }
-{
-    if s.edition == 1 {
-        return 1;
-    }
-    s.suite
-}
-
 // Eight places of zeros.
 fn no_summaries() -> [Summary; 8]
     ensures { λ r. ⌜ r ≡ replicate 8 noSummary ⌝ }
@@ -449,7 +439,7 @@ fn each_summary(s: Sheet, totals: Totals, table: &[u32]) -> [Summary; 8]
     requires { ⌜ Holds (tasksOf s) (now table) ⌝ }
     ensures { λ r. ⌜ r ≡ summariesTo s totals (chainCount s) ⌝ }
 {
-    let n = chain_count(s);
+    let n = sheet::chain_count(s);
     let mut chains = no_summaries();
     let mut c = 0u8;
     while c < n {

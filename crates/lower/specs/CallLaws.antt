@@ -21,7 +21,7 @@ use Rattle.sheet.specs.Sound.{Sound}
 use Rattle.sheet.specs.SoundLaws.{judged-sound}
 use Rattle.sheet.specs.Tasks.{tasksOf, lacks, chainAt, chainOf, restOf}
 use Rattle.sheet.specs.Lateness.{lateness}
-use Rattle.sheet.specs.TaskLaws.{tasks-length, period-at, budget-at, rank-at, chain-count, chain-place, chain-length, entry-listed}
+use Rattle.sheet.specs.TaskLaws.{tasks-length, period-at, budget-at, rank-at, chain-count, number-known, chain-place, chain-length, entry-listed}
 use Rattle.schedule.specs.declared.answer.Size.{Size}
 use Rattle.schedule.specs.Calls.{mostJobs, sizesOf, responsesOf}
 use Rattle.schedule.specs.CallLaws.{sizes-given}
@@ -29,7 +29,6 @@ use Rattle.schedule.specs.Results.{responses-given, given-responses}
 use Rattle.recurrence.specs.Calls.{passingGreatest, quickOf}
 use Rattle.recurrence.specs.CallLaws.{quick-fits, quick-passing-task}
 use Rattle.recurrence.specs.Results.{given-accepted}
-use Rattle.chain.specs.SuiteLaws.{number-known}
 use Rattle.chain.specs.QuickResults.{quick-late-table}
 use Rattle.lower.specs.declared.answer.Difference.{Difference}
 use Rattle.lower.specs.declared.answer.Difference.the-variants.{OldOnly, NewOnly, Period, Budget, Rank}

@@ -28,8 +28,10 @@ use chain::TaskFigures;
 use lower::Comparison;
 use lower::Difference;
 use lower::Which;
+use recurrence::Bounds;
 use recurrence::Quick;
 use recurrence::QuickBound;
+use recurrence::QuickSuite;
 use request::Request;
 use request::fill;
 use request::request_in;
@@ -214,6 +216,30 @@ fn put_comparison(out: &mut [u8], found: Comparison) -> usize {
     }
 }
 
+fn put_both(out: &mut [u8], at: usize, bounds: Bounds) -> usize {
+    put_words(out, at, &[bounds.sampling_bound, bounds.bound])
+}
+
+fn put_bounds(out: &mut [u8], at: usize, chains: [Bounds; 8]) -> usize {
+    let mut place = at;
+    let mut i = 0;
+    while i < 8 {
+        let bounds = chains[i];
+        place = put_both(&mut *out, place, bounds);
+        i += 1;
+    }
+    place
+}
+
+fn put_quick_suite(out: &mut [u8], suite: QuickSuite) -> usize {
+    let a = suite.answer;
+    let at = put_verdict(&mut *out, a);
+    let responses = suite.responses;
+    let next = put_words(&mut *out, at, &responses);
+    let chains = suite.chains;
+    put_bounds(out, next, chains)
+}
+
 // Whether it is below zero, and how far from zero it is.
 fn put_signed(out: &mut [u8], at: usize, z: i32) -> usize {
     let next = put_word(&mut *out, at, below_zero(z));
@@ -284,6 +310,8 @@ fn of_sheet(
         21 => put_reading(out, sheet::to_first(s)),
         22 => put_verdict(out, sheet::numbered(s, chain)),
         24 => put_comparison(out, lower::compare(s, sheet_in(&*lent))),
+        25 => one(out, sheet::chain_count(s) as u32),
+        26 => put_quick_suite(out, recurrence::suite(s)),
         _ => accepted(out),
     }
 }

@@ -14,6 +14,7 @@ use Rattle.theory.specs.Model.Recurrence.{quickResponse}
 use Rattle.theory.specs.Analysis.GreatestLaws.{IsGreatest, greatest-is}
 use Rattle.answers.specs.declared.Refusal.{Refusal}
 use Rattle.answers.specs.Answers.{given, refused, Judgement, fine, also, refusal}
+use Rattle.answers.specs.AnswerLaws.{also-given}
 use Rattle.sheet.specs.declared.Sheet.{Sheet}
 use Rattle.sheet.specs.Calls.{judgeOf}
 use Rattle.sheet.specs.PlaceLaws.{places-taken}
@@ -21,7 +22,7 @@ use Rattle.sheet.specs.Sound.{Sound}
 use Rattle.sheet.specs.Tasks.{tasksOf, lacks, chainOf}
 use Rattle.sheet.specs.Lateness.{lateness}
 use Rattle.sheet.specs.TaskLaws.{tasks-length, rank-at, period-at}
-use Rattle.recurrence.specs.Calls.{passes, passingGreatest, boundsOf, quickOf, responsesIn, noResponses, responsesAfter}
+use Rattle.recurrence.specs.Calls.{passes, passingGreatest, boundsOf, quickOf, suiteOf, responsesIn, noResponses, responsesAfter}
 use Rattle.recurrence.specs.Conditions.{Responding}
 
 -- ---- the answer
@@ -57,6 +58,34 @@ module _ (s : Sheet) (number : ℕ) where
   -- A refusal leaves zeros.
   pub responses-none : (r : Refusal) → quickOf s number ≡ refusal r → noResponses ≡ responsesAfter (quickOf s number) s
   responses-none r e = ap (λ a. responsesAfter a s) (sym e)
+
+-- ---- of every chain
+
+module _ (s : Sheet) where
+  abbrev late : Judgement
+  late = lateness (passingGreatest (tasksOf s) (length (tasksOf s)))
+
+  pub suite-refused : (r : Refusal) → judgeOf s ≡ refusal r → suiteOf s ≡ refusal r
+  unfolding suiteOf
+  suite-refused r e = ap (λ j. also j late) e
+
+  pub suite-judged : judgeOf s ≡ fine → suiteOf s ≡ late
+  unfolding suiteOf
+  suite-judged e = ap (λ j. also j late) e
+
+  -- What is given of a chain that the sheet has.
+  pub quick-known : (number : ℕ) → lacks s number ≡ fine → quickOf s number ≡ also (suiteOf s) (given (boundsOf (tasksOf s) (chainOf s number)))
+  unfolding quickOf suiteOf
+  quick-known number known =
+      ap (λ k. also (judgeOf s) (also k (also late (given (boundsOf (tasksOf s) (chainOf s number)))))) known ∙ go (judgeOf s)
+    where
+      go : (j : Judgement) → also j (also late (given (boundsOf (tasksOf s) (chainOf s number)))) ≡ also (also j late) (given (boundsOf (tasksOf s) (chainOf s number)))
+      go (given u) = refl
+      go (refused n vs) = refl
+
+  pub suite-sound : suiteOf s ≡ fine → judgeOf s ≡ fine
+  unfolding suiteOf
+  suite-sound e = also-given (judgeOf s) late e .0
 
 -- ---- the greatest-ranked task that passes its period
 

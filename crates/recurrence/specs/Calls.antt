@@ -1,7 +1,7 @@
 -- What the call answers. Quotations are from document 02, P4, and from document 01.
 use mathlib.Core.Bool.{Bool}
 use mathlib.Core.List.{List}
-use Prim.Native.Nat.{ℕ}
+use Prim.Native.Nat.{ℕ, _+_}
 use lib.Dec.{ltb}
 use lib.ListN.{length, replicate}
 use Rattle.theory.specs.declared.Task.{Task}
@@ -12,10 +12,10 @@ use Rattle.theory.specs.Model.Flag.{fromFlag}
 use Rattle.theory.specs.Model.Recurrence.{quickResponse}
 use Rattle.answers.specs.declared.Refusal.{Refusal}
 use Rattle.answers.specs.declared.Refusal.the-variants.{Number}
-use Rattle.answers.specs.Answers.{Answer, given, refused, also, refusal}
+use Rattle.answers.specs.Answers.{Answer, Judgement, given, refused, also, refusal}
 use Rattle.sheet.specs.declared.Sheet.{Sheet}
 use Rattle.sheet.specs.Calls.{places, judgeOf}
-use Rattle.sheet.specs.Tasks.{tasksOf, lacks, chainOf, firstOf, restOf}
+use Rattle.sheet.specs.Tasks.{tasksOf, chainCount, lacks, chainOf, firstOf, restOf}
 use Rattle.sheet.specs.Lateness.{lateness}
 use Rattle.recurrence.specs.declared.answer.Bounds.{Bounds}
 use Rattle.recurrence.specs.declared.answer.Quick.{Quick}
@@ -55,9 +55,24 @@ responsesIn s = places 16 0 (s .count) (quickResponse (tasksOf s))
 abbrev pub noResponses : List ℕ
 noResponses = replicate 16 0
 
-abbrev pub responsesAfter : Answer Bounds → Sheet → List ℕ
-responsesAfter (given bounds) s = responsesIn s
+abbrev pub responsesAfter : {A : Type 0} → Answer A → Sheet → List ℕ
+responsesAfter (given x) s = responsesIn s
 responsesAfter (refused number values) s = noResponses
+
+-- Of every chain of the sheet: no number is judged, and the bounds of chain c + 1 are in place c of eight; zeros past the last, and with a
+-- refusal.
+unfoldable pub suiteOf : Sheet → Judgement
+suiteOf s = also (judgeOf s) (lateness (passingGreatest (tasksOf s) (length (tasksOf s))))
+
+abbrev pub noBounds : Bounds
+noBounds = record { «sampling_bound» = 0; bound = 0 }
+
+abbrev pub boundsTo : Sheet → ℕ → List Bounds
+boundsTo s n = places 8 noBounds n (λ c. boundsOf (tasksOf s) (chainOf s (c + 1)))
+
+abbrev pub boundsAfter : Judgement → Sheet → List Bounds
+boundsAfter (given u) s = boundsTo s (chainCount s)
+boundsAfter (refused number values) s = replicate 8 noBounds
 
 -- The answer for each case of the code's enum,
 abbrev pub toldQuick : Quick → Answer Bounds

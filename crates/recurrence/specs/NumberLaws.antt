@@ -3,11 +3,10 @@ use mathlib.Core.Logic.{_≢_}
 use Prim.Native.Nat.{ℕ, _≤_}
 use native.Mathlib.Omega.{arith}
 use lib.ListN.{length}
-use Rattle.answers.specs.NumberLaws.{Numbered, given-numbered, numbered-wider, when-numbered, also-numbered, Never, given-never, when-never, also-never}
+use Rattle.answers.specs.NumberLaws.{Numbered, given-numbered, numbered-wider, when-numbered, also-numbered, Never, given-only, when-only, also-only}
 use Rattle.sheet.specs.declared.Sheet.{Sheet}
 use Rattle.sheet.specs.Fields.{outside}
-use Rattle.sheet.specs.NumberLaws.{judge-numbered}
-use Rattle.sheet.specs.NeverLaws.{judge-never}
+use Rattle.sheet.specs.NumberLaws.{judge-never, judge-numbered}
 use Rattle.sheet.specs.Tasks.{tasksOf, chainCount}
 use Rattle.sheet.specs.LatenessLaws.{lateness-numbered, lateness-never}
 use Rattle.recurrence.specs.Calls.{passingGreatest, quickOf}
@@ -24,9 +23,9 @@ module _ (s : Sheet) (number : ℕ) where
   never : (n : ℕ) → 9 ≤ n → n ≤ 14 → n ≢ 13 → Never n (quickOf s number)
   unfolding quickOf
   never n least most other =
-      also-never (judge-never n least (omega arith) other s)
-      (also-never (when-never (outside 1 (chainCount s) number) 17 (λ e. omega arith))
-      (also-never (lateness-never (λ e. omega arith) (passingGreatest (tasksOf s) (length (tasksOf s)))) (given-never _)))
+      also-only (judge-never n least (omega arith) other s)
+      (also-only (when-only (outside 1 (chainCount s) number) 17 (λ e. omega arith))
+      (also-only (lateness-never (λ e. omega arith) (passingGreatest (tasksOf s) (length (tasksOf s)))) (given-only _)))
 
   -- is not given: "10, 11 and 14 do not occur in this call."
   pub quick-never : Never 10 (quickOf s number) × Never 11 (quickOf s number) × Never 14 (quickOf s number)

@@ -3,7 +3,7 @@ use mathlib.Core.Path.{_≡_, refl, sym, ap, _∙_, subst}
 use mathlib.Core.Logic.{_≢_}
 use mathlib.Core.List.{List, [], _∷_}
 use mathlib.Core.Bool.{true, false, false≢true}
-use Prim.Native.Nat.{ℕ, _+_, _≤_, _<_}
+use Prim.Native.Nat.{ℕ, _+_, _-_, _≤_, _<_}
 use native.Mathlib.Omega.{arith}
 use lib.ListN.{length, getD}
 use borrow.Author.Tests.{lt-ltb, ltb-true, ltb-false}
@@ -16,22 +16,24 @@ use Rattle.theory.specs.Model.Recurrence.{quickResponse, Passing, EverLate}
 use Rattle.theory.specs.Analysis.QuickLaws.{within-accepted}
 use Rattle.theory.specs.Results.QuickBound as theory
 use Rattle.answers.specs.Answers.{Answer, given, refused, Judgement, fine, also}
-use Rattle.answers.specs.AnswerLaws.{refused-given, also-given}
-use Rattle.answers.specs.NumberLaws.{when-never}
+use Rattle.answers.specs.AnswerLaws.{refused-given, when-fine, also-given}
+use Rattle.answers.specs.NumberLaws.{when-only}
+use Rattle.sheet.specs.NumberLaws.{judge-never}
 use Rattle.sheet.specs.declared.Sheet.{Sheet}
 use Rattle.sheet.specs.Calls.{judgeOf}
 use Rattle.sheet.specs.Fields.{outside}
-use Rattle.sheet.specs.NeverLaws.{judge-never}
-use Rattle.sheet.specs.SoundLaws.{judged-sound}
+use Rattle.sheet.specs.PlaceLaws.{places-taken}
+use Rattle.sheet.specs.SoundLaws.{inside, judged-sound}
 use Rattle.sheet.specs.Tasks.{tasksOf, chainCount, lacks, chainOf, firstOf, restOf}
 use Rattle.sheet.specs.Lateness.{lateness}
-use Rattle.sheet.specs.TaskLaws.{tasks-length, sound-proper, chain-known}
+use Rattle.sheet.specs.TaskLaws.{tasks-length, sound-proper, chains-most, chain-known}
 use Rattle.sheet.specs.LatenessLaws.{lateness-fine}
 use Rattle.recurrence.specs.declared.answer.Bounds.{Bounds}
 use Rattle.recurrence.specs.declared.answer.QuickBound.{QuickBound}
-use Rattle.recurrence.specs.Calls.{passingGreatest, boundsOf, quickOf, responsesAfter}
-use Rattle.recurrence.specs.CallLaws.{found, quick-fits, quick-passing-task, response-at}
-use Rattle.recurrence.specs.Promises.{BoundPromise}
+use Rattle.recurrence.specs.declared.answer.QuickSuite.{QuickSuite}
+use Rattle.recurrence.specs.Calls.{passingGreatest, boundsOf, quickOf, suiteOf, noBounds, boundsAfter, responsesAfter}
+use Rattle.recurrence.specs.CallLaws.{found, quick-known, suite-sound, quick-fits, quick-passing-task, response-at}
+use Rattle.recurrence.specs.Promises.{BoundPromise, SuitePromise}
 
 -- ---- when each answer is given
 
@@ -109,8 +111,8 @@ module _ (s : Sheet) (number : ℕ) where
 
       go : (j : Judgement) → judgeOf s ≡ j → (k : Judgement) → lacks s number ≡ k
           → also j (also k (rest (passingGreatest ts (length ts)))) ≡ refused 15 (i ∷ []) → LateWhen s number i
-      go (refused n vs) q k p e = early (judge-never 15 (omega arith) (omega arith) (λ z. omega arith) s .differs q) e
-      go (given u) q (refused n vs) p e = early (when-never (outside 1 (chainCount s) number) 17 (λ z. omega arith) .differs p) e
+      go (refused n vs) q k p e = early (judge-never 15 (omega arith) (omega arith) (λ z. omega arith) s .holds q) e
+      go (given u) q (refused n vs) p e = early (when-only {P = λ m. m ≢ 15} (outside 1 (chainCount s) number) 17 (λ z. omega arith) .holds p) e
       go (given u) q (given v) k e = pick (passingGreatest ts (length ts)) refl e
         where
           pick : (x : Slot) → passingGreatest ts (length ts) ≡ x → rest x ≡ refused 15 (i ∷ []) → LateWhen s number i
@@ -174,3 +176,23 @@ no-flag-exceeds-quick-bound s number b answer d within run schedule e =
     subst (λ b. FlagWithin d run (firstOf (chainOf s number)) (restOf (chainOf s number)) e (b .bound)) (g .bounds-are)
     (theory.no-flag-exceeds-quick-bound (tasksOf s) (given-accepted s number answer) (firstOf (chainOf s number)) (restOf (chainOf s number))
     (chain-known (judged-sound s (g .judged-fine)) number (g .numbered-fine)) d within run schedule e)
+
+-- ---- every chain from one search: of each chain what the call for it alone answers
+
+pub suite-bound : (s : Sheet) (r : QuickSuite) (promise : SuitePromise s r) (number : ℕ) (known : lacks s number ≡ fine)
+    → quickOf s number ≡ also (suiteOf s) (given (getD (r .chains) (number - 1) noBounds))
+suite-bound s r promise number known = quick-known s number known ∙ go (suiteOf s) refl
+  where
+    count : (1 ≤ number) × (number ≤ chainCount s)
+    count = inside 1 (chainCount s) number (when-fine _ 17 known)
+
+    place : suiteOf s ≡ fine → getD (r .chains) (number - 1) noBounds ≡ boundsOf (tasksOf s) (chainOf s number)
+    place e =
+        ap (λ xs. getD xs (number - 1) noBounds) (promise .2 ∙ ap (λ a. boundsAfter a s) e)
+        ∙ places-taken 8 noBounds (λ c. boundsOf (tasksOf s) (chainOf s (c + 1))) (chainCount s) noBounds (number - 1) (omega (arith, count))
+        (omega (arith, count, chains-most (judged-sound s (suite-sound s e))))
+        ∙ ap (λ n. boundsOf (tasksOf s) (chainOf s n)) {x = number - 1 + 1} {y = number} (omega (arith, count))
+
+    go : (a : Judgement) → suiteOf s ≡ a → also a (given (boundsOf (tasksOf s) (chainOf s number))) ≡ also a (given (getD (r .chains) (number - 1) noBounds))
+    go (given u) e = ap given (sym (place e))
+    go (refused n vs) e = refl

@@ -6,22 +6,23 @@ mod answer;
 pub use answer::Bounds;
 pub use answer::Quick;
 pub use answer::QuickBound;
+pub use answer::QuickSuite;
 use answers::Refusal;
 use answers::Verdict;
 use sheet::Chain;
 use sheet::Sheet;
 ghost use mathlib.Core.Path.{_≡_};
 ghost use Prim.Native.Nat.{_≤_, _<_};
-ghost use lib.ListN.{length};
+ghost use lib.ListN.{length, replicate};
 ghost use Rattle.theory.specs.Model.Recurrence.{quickResponse};
 ghost use Rattle.answers.specs.Answers.{fine, told, refusalIn};
 ghost use Rattle.sheet.specs.Sound.{Sound};
-ghost use Rattle.sheet.specs.Tasks.{tasksOf, lacks, chainAt, chainOf};
+ghost use Rattle.sheet.specs.Tasks.{tasksOf, chainCount, lacks, chainAt, chainOf};
 ghost use Rattle.sheet.specs.Lateness.{lateness};
 ghost use Rattle.recurrence.specs.declared.answer.Quick.the-variants.{No};
-ghost use Rattle.recurrence.specs.Calls.{passingGreatest, boundBy, boundsOf, responsesIn, noResponses};
+ghost use Rattle.recurrence.specs.Calls.{passingGreatest, boundBy, boundsOf, responsesIn, noResponses, noBounds, boundsTo};
 ghost use Rattle.recurrence.specs.Conditions.{mostPeriod, Places, Outranking, claimIn, pairOf, Responding, ChainOn};
-ghost use Rattle.recurrence.specs.Promises.{BoundPromise, BoundRefusalPromise};
+ghost use Rattle.recurrence.specs.Promises.{BoundPromise, BoundRefusalPromise, SuitePromise};
 
 // The periods and budgets of the tasks that outrank task i, and how many they are.
 fn gather(s: Sheet, i: usize, periods: &mut [u32; 16], budgets: &mut [u32; 16]) -> usize
@@ -256,5 +257,65 @@ pub fn bound(s: Sheet, number: u8) -> QuickBound
     QuickBound {
         answer: Quick::Of(bounds),
         responses,
+    }
+}
+
+fn no_bounds() -> [Bounds; 8]
+    ensures { λ r. ⌜ r ≡ replicate 8 noBounds ⌝ }
+{
+    let none = Bounds {
+        sampling_bound: 0,
+        bound: 0,
+    };
+    [none; 8]
+}
+
+// The bounds of each chain.
+fn each_bounds(s: Sheet, responses: &[u32; 16]) -> [Bounds; 8]
+    requires { ⌜ Sound s ⌝ }
+    requires { ⌜ Responding s (now responses) ⌝ }
+    ensures { λ r. ⌜ r ≡ boundsTo s (chainCount s) ⌝ }
+{
+    let n = sheet::chain_count(s);
+    let mut chains = no_bounds();
+    let mut c = 0u8;
+    while c < n {
+        let place = c as usize;
+        chains[place] = bounds_of(s, c + 1, responses);
+        c += 1;
+    }
+    chains
+}
+
+// A refusal, with zeros beside it.
+fn none_of(v: Verdict) -> QuickSuite
+    ensures { λ r. ⌜ (r .answer ≡ v) × (r .responses ≡ noResponses) × (r .chains ≡ replicate 8 noBounds) ⌝ }
+{
+    let chains = no_bounds();
+    QuickSuite {
+        answer: v,
+        responses: [0u32; 16],
+        chains,
+    }
+}
+
+// The quick bounds of every chain, and the response of each task, from one search; zeros where it is refused.
+pub fn suite(s: Sheet) -> QuickSuite
+    ensures { λ r. ⌜ SuitePromise s r ⌝ }
+{
+    let v = sheet::judge(s);
+    let Verdict::Fine = v else {
+        return none_of(v);
+    };
+    let responses = each_response(s);
+    let late = passing(s, &responses);
+    let Verdict::Fine = late else {
+        return none_of(late);
+    };
+    let chains = each_bounds(s, &responses);
+    QuickSuite {
+        answer: late,
+        responses,
+        chains,
     }
 }

@@ -34,7 +34,7 @@ module _ (s : Sheet) (old : List ℕ) where
   untouched n d = rw (ne-eqb n 15 d)
 
   pub answers-refused : (r : Refusal) → sizesOf s ≡ refusal r → AnswersAs (responsesOf s (length old)) s old (refusal r) old
-  answers-refused r e = answers (responses-refused s (length old) r e) (untouched (numberIn r) (sizes-never-15 s .differs e))
+  answers-refused r e = answers (responses-refused s (length old) r e) (untouched (numberIn r) (sizes-never-15 s .holds e))
 
   module _ {size : Size} (fits : sizesOf s ≡ given size) where
     pub answers-small : length old < size .jobs → AnswersAs (responsesOf s (length old)) s old (refused 14 []) old

@@ -5,10 +5,9 @@ use lib.Dec.{ltb}
 use lib.ListN.{length}
 use Rattle.theory.specs.Model.Responses.{hyperperiod, allJobs}
 use Rattle.answers.specs.Answers.{refusal}
-use Rattle.answers.specs.NumberLaws.{Numbered, given-numbered, numbered-wider, when-numbered, after-numbered, also-numbered, Never, given-never, when-never, also-never}
+use Rattle.answers.specs.NumberLaws.{Numbered, given-numbered, numbered-wider, when-numbered, after-numbered, also-numbered, Never, given-only, when-only, also-only}
 use Rattle.sheet.specs.declared.Sheet.{Sheet}
-use Rattle.sheet.specs.NumberLaws.{judge-numbered}
-use Rattle.sheet.specs.NeverLaws.{judge-never}
+use Rattle.sheet.specs.NumberLaws.{judge-never, judge-numbered}
 use Rattle.sheet.specs.Tasks.{tasksOf}
 use Rattle.sheet.specs.LatenessLaws.{lateness-numbered}
 use Rattle.schedule.specs.Calls.{mostTicks, mostJobs, lateGreatest, sizesOf, responsesOf}
@@ -25,9 +24,9 @@ sizes-numbered s =
 pub sizes-never-15 : (s : Sheet) → Never 15 (sizesOf s)
 unfolding sizesOf
 sizes-never-15 s =
-    also-never (judge-never 15 (omega arith) (omega arith) (λ e. omega arith) s)
-    (also-never (when-never (ltb mostTicks (hyperperiod (tasksOf s))) 10 (λ e. omega arith))
-    (also-never (when-never (ltb mostJobs (allJobs (tasksOf s))) 11 (λ e. omega arith)) (given-never _)))
+    also-only (judge-never 15 (omega arith) (omega arith) (λ e. omega arith) s)
+    (also-only (when-only (ltb mostTicks (hyperperiod (tasksOf s))) 10 (λ e. omega arith))
+    (also-only (when-only (ltb mostJobs (allJobs (tasksOf s))) 11 (λ e. omega arith)) (given-only _)))
 
 -- then "14, 15".
 pub responses-numbered : (s : Sheet) (room : ℕ) → Numbered 2 17 (responsesOf s room)

@@ -97,7 +97,7 @@ module _ (s : Sheet) (room : ℕ) where
   responses-15 {i} = go (sizesOf s) refl
     where
       go : (x : Answer Size) → sizesOf s ≡ x → after x rest ≡ refused 15 (i ∷ []) → LateWhen s room i
-      go (refused number values) q e = absurd (sizes-never-15 s .differs q (same e))
+      go (refused number values) q e = absurd (sizes-never-15 s .holds q (same e))
         where
           same : _≡_ {A = Answer Totals} (refused number values) (refused 15 (i ∷ [])) → number ≡ 15
           same h = cc

@@ -7,7 +7,7 @@ use native.Mathlib.Omega.{arith}
 use Rattle.theory.specs.Model.Schedule.{Slot, idle, busy}
 use Rattle.answers.specs.Answers.{fine}
 use Rattle.answers.specs.AnswerLaws.{refused-given}
-use Rattle.answers.specs.NumberLaws.{Numbered, given-numbered, refused-numbered, Never, given-never, refused-never}
+use Rattle.answers.specs.NumberLaws.{Numbered, given-numbered, refused-numbered, Never, given-only, refused-only}
 use Rattle.sheet.specs.Lateness.{lateness}
 
 pub lateness-fine : (x : Slot) → lateness x ≡ fine → x ≡ idle
@@ -19,5 +19,5 @@ lateness-numbered idle = given-numbered tt
 lateness-numbered (busy i) = refused-numbered 15 (i ∷ []) (omega arith) (omega arith)
 
 pub lateness-never : {n : ℕ} → 15 ≢ n → (x : Slot) → Never n (lateness x)
-lateness-never d idle = given-never tt
-lateness-never d (busy i) = refused-never 15 (i ∷ []) d
+lateness-never d idle = given-only tt
+lateness-never d (busy i) = refused-only 15 (i ∷ []) d

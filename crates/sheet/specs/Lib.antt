@@ -16,7 +16,6 @@ pub mod PlaceLaws
 pub mod AnswerLaws
 pub mod InOrderLaws
 pub mod NumberLaws
-pub mod NeverLaws
 pub mod FormatLaws
 pub mod TailLaws
 pub mod SameLaws

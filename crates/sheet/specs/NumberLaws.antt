@@ -1,5 +1,5 @@
 -- The numbers of refusal that each call may give.
-use mathlib.Core.Path.{refl}
+use mathlib.Core.Path.{_≡_, refl, sym, _∙_}
 use mathlib.Core.Logic.{_≢_}
 use mathlib.Core.List.{List, [], _∷_}
 use Prim.Native.Nat.{ℕ, _+_, _*_, _≤_, _<_}
@@ -11,7 +11,7 @@ use Rattle.sheet.specs.declared.Sheet.{Sheet}
 use Rattle.sheet.specs.declared.Field.{Field}
 use Rattle.sheet.specs.declared.Field.the-variants.{Mark, Edition, Count, Period, Budget, Rank, Chains, Limit, Length, Entry}
 use Rattle.answers.specs.Answers.{Judgement, given, refused}
-use Rattle.answers.specs.NumberLaws.{Numbered, given-numbered, refused-numbered, numbered-wider, when-numbered, with-value-numbered, also-numbered, Only, given-only, refused-only, when-only, also-only}
+use Rattle.answers.specs.NumberLaws.{Numbered, given-numbered, refused-numbered, numbered-wider, when-numbered, with-value-numbered, also-numbered, Only, given-only, refused-only, when-only, also-only, only-wider, Never}
 use Rattle.sheet.specs.Fields.{Values, Kind, kindOf, fields, width, value, outside, among, judged, offset, withOffset, inOrder}
 use Rattle.sheet.specs.Calls.{judgeOf, endOf, sizeOf, writeOf, sheetOf, spelt, judgedIn, wrongBit, tailOf, readAs, readOf}
 
@@ -79,26 +79,23 @@ read-numbered bytes = read-as-numbered bytes (sheetOf (spelt (unpack bytes)))
 pub record FieldNumber (n : ℕ) : Type 0 where
   pub least : 2 ≤ n
   pub most : n ≤ 17
-  pub to-eight : 8 < n → 13 ≤ n
-  pub not-fourteen : n ≢ 14
-  pub not-fifteen : n ≢ 15
+  pub between : 9 ≤ n → n ≤ 15 → n ≡ 13
 
--- one of them is below 9 or is none of the others
 own : (n : ℕ) → 2 ≤ n → n ≤ 8 → FieldNumber n
-own n l h = record { least = l; most = omega arith; to-eight = λ g. omega arith; not-fourteen = λ e. omega arith; not-fifteen = λ e. omega arith }
+own n l h = record { least = l; most = omega arith; between = λ g k. omega arith }
 
-later : (n : ℕ) → 13 ≤ n → n ≤ 17 → n ≢ 14 → n ≢ 15 → FieldNumber n
-later n l h p q = record { least = omega arith; most = h; to-eight = λ g. l; not-fourteen = p; not-fifteen = q }
+later : (n : ℕ) → 13 ≤ n → n ≤ 17 → (n ≤ 15 → n ≡ 13) → FieldNumber n
+later n l h e = record { least = omega arith; most = h; between = λ g k. e k }
 
 judged-only : (kind : Kind) (v : Values) (f : Field) → Only FieldNumber (judged kind v f)
 judged-only kind v Mark = given-only tt
-judged-only kind v Edition = when-only (outside 2 2 (v Edition)) 16 (later 16 (omega arith) (omega arith) (λ e. omega arith) (λ e. omega arith))
+judged-only kind v Edition = when-only (outside 2 2 (v Edition)) 16 (later 16 (omega arith) (omega arith) (λ k. omega arith))
 judged-only kind v Count = when-only (outside 1 16 (v Count)) 2 (own 2 (omega arith) (omega arith))
 judged-only kind v (Period i) = when-only (outside 1 100000 (v (Period i))) 3 (own 3 (omega arith) (omega arith))
 judged-only kind v (Budget i) = when-only (outside 1 (v (Period i)) (v (Budget i))) 4 (own 4 (omega arith) (omega arith))
 judged-only kind v (Rank i) = when-only (among (λ j. v (Rank j)) i (v (Rank i))) 5 (own 5 (omega arith) (omega arith))
-judged-only kind v Chains = when-only (outside 1 8 (v Chains)) 17 (later 17 (omega arith) (omega arith) (λ e. omega arith) (λ e. omega arith))
-judged-only kind v (Limit c) = when-only (outside 0 4000000 (v (Limit c))) 13 (later 13 (omega arith) (omega arith) (λ e. omega arith) (λ e. omega arith))
+judged-only kind v Chains = when-only (outside 1 8 (v Chains)) 17 (later 17 (omega arith) (omega arith) (λ k. omega arith))
+judged-only kind v (Limit c) = when-only (outside 0 4000000 (v (Limit c))) 13 (later 13 (omega arith) (omega arith) (λ k. omega arith))
 judged-only kind v (Length c) = when-only (outside 1 (v Count) (v (Length c))) 6 (own 6 (omega arith) (omega arith))
 judged-only kind v (Entry c i) =
     also-only (when-only (leb (v Count) (v (Entry c i))) 7 (own 7 (omega arith) (omega arith)))
@@ -118,3 +115,7 @@ module _ {P : ℕ → Type 0} where
 pub judge-only : (s : Sheet) → Only FieldNumber (judgeOf s)
 unfolding judgeOf
 judge-only s = in-order-only (fields (value s)) 0 (λ at f. with-offset-only at (judged-only (kindOf (value s)) (value s) f))
+
+-- 9 to 12, 14 and 15 are none of them.
+pub judge-never : (n : ℕ) → 9 ≤ n → n ≤ 15 → n ≢ 13 → (s : Sheet) → Never n (judgeOf s)
+judge-never n least most other s = only-wider (λ number p e. other (sym e ∙ p .between (omega arith) (omega arith))) (judge-only s)

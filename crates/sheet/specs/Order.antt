@@ -2,7 +2,7 @@
 use mathlib.Core.Bool.{Bool, cond}
 use mathlib.Core.List.{List}
 use Prim.Native.Nat.{ℕ, _+_, _*_}
-use lib.Dec.{ltb, leb}
+use lib.Dec.{ltb, leb, eqb}
 use lib.ListN.{getD}
 use Rattle.bits.specs.Bits.{number}
 use Rattle.theory.specs.declared.Task.{Task}
@@ -11,10 +11,14 @@ use Rattle.sheet.specs.declared.Sheet.{Sheet}
 use Rattle.sheet.specs.declared.Field.{Field}
 use Rattle.sheet.specs.declared.Field.the-variants.{Mark, Edition, Count, Period, Budget, Rank, Chains, Limit, Length, Entry}
 use Rattle.answers.specs.Answers.{Judgement, when, also}
-use Rattle.sheet.specs.Fields.{among, Values, Kind, old, new, tasks, entries, width}
+use Rattle.sheet.specs.Fields.{among, Values, Kind, old, new, tasks, entries, width, judged}
 use Rattle.sheet.specs.Calls.{places, sheetBy, extra, taskBegin, tasksIn, speltBy}
 
--- The first field of a sheet, of its chains, of chain c, and of what begins with task i or entry i.
+-- What an edition says of a sheet.
+abbrev pub kindBy : ℕ → Kind
+kindBy edition = cond (eqb (cond (eqb edition 1) 0 31) 31) new old
+
+-- The first field of a sheet, of chain c, of its chains, and of what begins with task i of n or entry i of m.
 abbrev pub opening : Kind → Field
 opening new = Mark
 opening old = Count
@@ -27,26 +31,26 @@ abbrev pub suiteOpening : Kind → Field
 suiteOpening new = Chains
 suiteOpening old = Length 0
 
-abbrev pub taskOpening : Kind → Values → ℕ → Field
-taskOpening kind v i = cond (ltb i (tasks v)) (Period i) (suiteOpening kind)
+abbrev pub taskOpening : Kind → ℕ → ℕ → Field
+taskOpening kind n i = cond (ltb i n) (Period i) (suiteOpening kind)
 
-abbrev pub entryOpening : Kind → Values → ℕ → ℕ → Field
-entryOpening kind v c i = cond (ltb i (entries v c)) (Entry c i) (chainOpening kind (c + 1))
+abbrev pub entryOpening : Kind → ℕ → ℕ → ℕ → Field
+entryOpening kind m c i = cond (ltb i m) (Entry c i) (chainOpening kind (c + 1))
 
--- The field after a field.
-abbrev pub next : Kind → Values → Field → Field
-next kind v Mark = Edition
-next kind v Edition = Count
-next kind v Count = taskOpening kind v 0
-next kind v (Period i) = Budget i
-next kind v (Budget i) = Rank i
-next kind v (Rank i) = taskOpening kind v (i + 1)
-next kind v Chains = Limit 0
-next kind v (Limit c) = Length c
-next kind v (Length c) = entryOpening kind v c 0
-next kind v (Entry c i) = entryOpening kind v c (i + 1)
+-- The field after a field, with n tasks and, in its own chain, m entries.
+abbrev pub next : Kind → ℕ → ℕ → Field → Field
+next kind n m Mark = Edition
+next kind n m Edition = Count
+next kind n m Count = taskOpening kind n 0
+next kind n m (Period i) = Budget i
+next kind n m (Budget i) = Rank i
+next kind n m (Rank i) = taskOpening kind n (i + 1)
+next kind n m Chains = Limit 0
+next kind n m (Limit c) = Length c
+next kind n m (Length c) = entryOpening kind m c 0
+next kind n m (Entry c i) = entryOpening kind m c (i + 1)
 
--- The places that a field is in: which task, and which chain.
+-- The places that a field is in: which task, which chain, and which entry of it.
 abbrev pub taskIn : Field → ℕ
 taskIn Mark = 0
 taskIn Edition = 0
@@ -71,6 +75,22 @@ chainIn (Limit c) = c
 chainIn (Length c) = c
 chainIn (Entry c i) = c
 
+abbrev pub entryIn : Field → ℕ
+entryIn Mark = 0
+entryIn Edition = 0
+entryIn Count = 0
+entryIn (Period i) = 0
+entryIn (Budget i) = 0
+entryIn (Rank i) = 0
+entryIn Chains = 0
+entryIn (Limit c) = 0
+entryIn (Length c) = 0
+entryIn (Entry c i) = i
+
+-- The field after a field of a sheet that holds these values.
+abbrev pub after : Kind → Values → Field → Field
+after kind v f = next kind (tasks v) (entries v (chainIn f)) f
+
 -- Where the chains begin, and how many bits a chain has beside its entries.
 abbrev pub begins : Kind → Values → ℕ
 begins kind v = taskBegin kind (tasks v) + extra kind (width Chains)
@@ -85,6 +105,22 @@ nth values i = getD values i 0
 -- What is found of entry i of a chain with these entries, on a sheet of n tasks.
 abbrev pub entryJudged : ℕ → (ℕ → ℕ) → ℕ → Judgement
 entryJudged n e i = also (when (leb n (e i)) 7) (when (among e i (e i)) 8)
+
+-- What is found of a field, by the counts of its sheet, its own task and chain, and all ranks.
+abbrev pub around : ℕ → ℕ → ℕ → Task → List ℕ → Chain → Values
+around edition count suite task ranks chain Mark = cond (eqb edition 1) 0 31
+around edition count suite task ranks chain Edition = edition
+around edition count suite task ranks chain Count = count
+around edition count suite task ranks chain (Period i) = task .period
+around edition count suite task ranks chain (Budget i) = task .budget
+around edition count suite task ranks chain (Rank i) = nth ranks i
+around edition count suite task ranks chain Chains = suite
+around edition count suite task ranks chain (Limit c) = chain .limit
+around edition count suite task ranks chain (Length c) = chain .length
+around edition count suite task ranks chain (Entry c i) = nth (chain .entries) i
+
+abbrev pub judgedBy : ℕ → ℕ → ℕ → Task → List ℕ → Chain → Field → Judgement
+judgedBy edition count suite task ranks chain = judged (kindBy edition) (around edition count suite task ranks chain)
 
 -- What bits hold in the fields of a task, and of a chain whose limit takes w bits.
 abbrev pub taskAt : List Bool → ℕ → Task

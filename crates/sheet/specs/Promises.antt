@@ -11,7 +11,7 @@ use Rattle.sheet.specs.declared.Reading.{Reading}
 use Rattle.sheet.specs.declared.Written.{Written}
 use Rattle.sheet.specs.Calls.{judgeOf, readOf, writeOf, bufferAfter}
 use Rattle.sheet.specs.Conversions.{toSecond, toFirst}
-use Rattle.sheet.specs.Tasks.{lacks}
+use Rattle.sheet.specs.Tasks.{chainCount, lacks}
 use Rattle.sheet.specs.Answers.{toldSheet, toldBytes, sheetIn, noBytes}
 
 abbrev pub JudgePromise : Sheet → Verdict → Type 0
@@ -35,6 +35,9 @@ WritePromise s old w new = (toldBytes w ≡ writeOf s (length old)) × (new ≡ 
 
 abbrev pub WrittenRefusalPromise : Written → Refusal → Type 0
 WrittenRefusalPromise w r = r ≡ noBytes w
+
+abbrev pub ChainCountPromise : Sheet → ℕ → Type 0
+ChainCountPromise s r = r ≡ chainCount s
 
 abbrev pub NumberedPromise : Sheet → ℕ → Verdict → Type 0
 NumberedPromise s number v = told v ≡ lacks s number

@@ -9,6 +9,7 @@ use native.Mathlib.Omega.{arith}
 use lib.Dec.{eqb}
 use lib.ListN.{length, getD, length-take, List·getD-eq-default}
 use lib.Seq.{length-take-le, getD-take}
+use borrow.Author.Tests.{le-ltb}
 use Rattle.theory.specs.declared.Task.{Task}
 use Rattle.theory.specs.Model.Schedule.{none, period, budget, rank, Proper}
 use Rattle.theory.specs.Model.Responses.{hyperperiod, jobs}
@@ -19,6 +20,7 @@ use Rattle.answers.specs.Answers.{fine}
 use Rattle.answers.specs.AnswerLaws.{when-fine}
 use Rattle.sheet.specs.Fields.{old, new, kindOf, chains, value}
 use Rattle.sheet.specs.Sound.{Within, Sound}
+use Rattle.sheet.specs.SameLaws.{chains-few}
 use Rattle.sheet.specs.SoundLaws.{inside}
 use Rattle.sheet.specs.Tasks.{tasksOf, chainCount, lacks, chainAt, chainOf, firstOf, restOf}
 
@@ -108,6 +110,13 @@ chain-count {s} sound = go (eqb (s .edition) 1) sound
     go : (b : Bool) → Within (cond (eqb (cond b 0 31) 31) new old) (value s) → cond b 1 (s .suite) ≡ chains (cond (eqb (cond b 0 31) 31) new old) (value s)
     go true w = refl
     go false w = sym (w .chains-are tt)
+
+pub chains-most : {s : Sheet} → Sound s → chainCount s ≤ 8
+chains-most {s} sound = omega (arith, chain-count sound, chains-few (kindOf (value s)) (value s))
+
+-- a number from 1 to the count is that of a chain
+pub number-known : (s : Sheet) (number : ℕ) → 1 ≤ number → number ≤ chainCount s → lacks s number ≡ fine
+number-known s number l m = rw (le-ltb number 1 l, le-ltb (chainCount s) number m)
 
 module _ {s : Sheet} (sound : Sound s) (number : ℕ) (known : lacks s number ≡ fine) where
   -- the place of the chain among the eight

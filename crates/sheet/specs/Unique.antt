@@ -14,7 +14,7 @@ use Rattle.sheet.specs.declared.Written.the-variants.{Bytes, No as NoByt
 use Rattle.sheet.specs.Calls.{readOf, bufferAfter}
 use Rattle.sheet.specs.Conversions.{toSecond, toFirst}
 use Rattle.sheet.specs.Answers.{toldSheet, toldBytes, sheetIn}
-use Rattle.sheet.specs.Promises.{JudgePromise, ReadPromise, ToSecondPromise, ToFirstPromise, WritePromise, WrittenRefusalPromise, NumberedPromise}
+use Rattle.sheet.specs.Promises.{JudgePromise, ReadPromise, ToSecondPromise, ToFirstPromise, WritePromise, WrittenRefusalPromise, ChainCountPromise, NumberedPromise}
 
 pub judge-unique : (s : Sheet) (v w : Verdict) → JudgePromise s v → JudgePromise s w → v ≡ w
 judge-unique s v w h g = told-unique v w (h ∙ sym g)
@@ -38,6 +38,9 @@ to-second-unique s x y h g = sheet-unique (toSecond s) x y h g
 
 pub to-first-unique : (s : Sheet) (x y : Reading) → ToFirstPromise s x → ToFirstPromise s y → x ≡ y
 to-first-unique s x y h g = sheet-unique (toFirst s) x y h g
+
+pub chain-count-unique : (s : Sheet) (x y : ℕ) → ChainCountPromise s x → ChainCountPromise s y → x ≡ y
+chain-count-unique s x y h g = h ∙ sym g
 
 pub numbered-unique : (s : Sheet) (number : ℕ) (v w : Verdict) → NumberedPromise s number v → NumberedPromise s number w → v ≡ w
 numbered-unique s number v w h g = told-unique v w (h ∙ sym g)

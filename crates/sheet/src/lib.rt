@@ -15,9 +15,9 @@ ghost use Rattle.answers.specs.Answers.{when, told};
 ghost use Rattle.sheet.specs.Fields.{old, new, kindOf, tasks, chains, entries, fields, width, value, outside, among, judged, withOffset, inOrder};
 ghost use Rattle.sheet.specs.Calls.{places, unused, packed, endOf, taskBits, chainFrom, sheetOf, spelt, judgedIn, firstOne, tailOf};
 ghost use Rattle.sheet.specs.Conversions.{limited, stays};
-ghost use Rattle.sheet.specs.Order.{sheetSpelt, taskAt, chainSpelt, begins, chainBits, opening, chainOpening, suiteOpening, taskOpening, entryOpening, next, taskIn, chainIn, nth, entryJudged};
+ghost use Rattle.sheet.specs.Order.{sheetSpelt, taskAt, chainSpelt, begins, chainBits, kindBy, opening, chainOpening, suiteOpening, taskOpening, entryOpening, next, taskIn, chainIn, entryIn, nth, entryJudged, judgedBy};
 ghost use Rattle.sheet.specs.Answers.{blank};
-ghost use Rattle.sheet.specs.Promises.{JudgePromise, ReadPromise, WritePromise, WrittenRefusalPromise, ToSecondPromise, ToFirstPromise, NumberedPromise};
+ghost use Rattle.sheet.specs.Promises.{JudgePromise, ReadPromise, WritePromise, WrittenRefusalPromise, ToSecondPromise, ToFirstPromise, ChainCountPromise, NumberedPromise};
 ghost use Rattle.sheet.specs.declared.Field.the-variants.{Mark, Rank, Limit, Length};
 
 pub struct Chain {
@@ -109,6 +109,41 @@ fn width_of(f: Field) -> u32
         Field::Limit(_) => LIMIT_BITS,
         Field::Length(_) => LENGTH_BITS,
         Field::Entry(_, _) => ENTRY_BITS,
+    }
+}
+
+// The task and the chain that a field is in; 0 where it is in none.
+fn task_in(f: Field) -> usize
+    ensures { λ r. ⌜ r ≡ taskIn f ⌝ }
+{
+    match f {
+        Field::Mark => 0,
+        Field::Edition => 0,
+        Field::Count => 0,
+        Field::Period(i) => i as usize,
+        Field::Budget(i) => i as usize,
+        Field::Rank(i) => i as usize,
+        Field::Chains => 0,
+        Field::Limit(_) => 0,
+        Field::Length(_) => 0,
+        Field::Entry(_, _) => 0,
+    }
+}
+
+fn chain_in(f: Field) -> usize
+    ensures { λ r. ⌜ r ≡ chainIn f ⌝ }
+{
+    match f {
+        Field::Mark => 0,
+        Field::Edition => 0,
+        Field::Count => 0,
+        Field::Period(_) => 0,
+        Field::Budget(_) => 0,
+        Field::Rank(_) => 0,
+        Field::Chains => 0,
+        Field::Limit(c) => c as usize,
+        Field::Length(c) => c as usize,
+        Field::Entry(c, _) => c as usize,
     }
 }
 
@@ -222,87 +257,68 @@ fn chains_of(s: Sheet) -> u8
     taken(s.suite, 8)
 }
 
-fn opening_of(s: Sheet) -> Field
-    ensures { λ r. ⌜ r ≡ opening (kindOf (value s)) ⌝ }
+fn opening_of(edition: u8) -> Field
+    ensures { λ r. ⌜ r ≡ opening (kindBy edition) ⌝ }
 {
-    if s.edition == 1 {
+    if edition == 1 {
         return Field::Count;
     }
     Field::Mark
 }
 
-fn chain_opening(s: Sheet, c: u8) -> Field
-    ensures { λ r. ⌜ r ≡ chainOpening (kindOf (value s)) c ⌝ }
+fn chain_opening(edition: u8, c: u8) -> Field
+    ensures { λ r. ⌜ r ≡ chainOpening (kindBy edition) c ⌝ }
 {
-    if s.edition == 1 {
+    if edition == 1 {
         return Field::Length(c);
     }
     Field::Limit(c)
 }
 
-fn suite_opening(s: Sheet) -> Field
-    ensures { λ r. ⌜ r ≡ suiteOpening (kindOf (value s)) ⌝ }
+fn suite_opening(edition: u8) -> Field
+    ensures { λ r. ⌜ r ≡ suiteOpening (kindBy edition) ⌝ }
 {
-    if s.edition == 1 {
+    if edition == 1 {
         return Field::Length(0);
     }
     Field::Chains
 }
 
-fn task_opening(s: Sheet, i: u8) -> Field
-    ensures { λ r. ⌜ r ≡ taskOpening (kindOf (value s)) (value s) i ⌝ }
+fn task_opening(edition: u8, tasks: u8, i: u8) -> Field
+    ensures { λ r. ⌜ r ≡ taskOpening (kindBy edition) tasks i ⌝ }
 {
-    if i < tasks_of(s) {
+    if i < tasks {
         return Field::Period(i);
     }
-    suite_opening(s)
+    suite_opening(edition)
 }
 
-fn task_after(s: Sheet, i: u8) -> Field
-    ensures { λ r. ⌜ r ≡ taskOpening (kindOf (value s)) (value s) (i + 1) ⌝ }
-{
-    if i < 16 {
-        return task_opening(s, i + 1);
-    }
-    suite_opening(s)
-}
-
-fn entry_opening(s: Sheet, c: u8, i: u8) -> Field
+fn entry_opening(edition: u8, entries: u8, c: u8, i: u8) -> Field
     requires { ⌜ c < 255 ⌝ }
-    ensures { λ r. ⌜ r ≡ entryOpening (kindOf (value s)) (value s) c i ⌝ }
+    ensures { λ r. ⌜ r ≡ entryOpening (kindBy edition) entries c i ⌝ }
 {
-    if i < entries_in(s, c) {
+    if i < entries {
         return Field::Entry(c, i);
     }
-    chain_opening(s, c + 1)
+    chain_opening(edition, c + 1)
 }
 
-fn entry_after(s: Sheet, c: u8, i: u8) -> Field
-    requires { ⌜ c < 255 ⌝ }
-    ensures { λ r. ⌜ r ≡ entryOpening (kindOf (value s)) (value s) c (i + 1) ⌝ }
-{
-    if i < 16 {
-        return entry_opening(s, c, i + 1);
-    }
-    chain_opening(s, c + 1)
-}
-
-// The field after a field.
-fn next_of(s: Sheet, f: Field) -> Field
-    requires { ⌜ chainIn f < 255 ⌝ }
-    ensures { λ r. ⌜ r ≡ next (kindOf (value s)) (value s) f ⌝ }
+// The field after a field, on a sheet of so many tasks, with so many entries in the field's own chain.
+fn next_of(edition: u8, tasks: u8, entries: u8, f: Field) -> Field
+    requires { ⌜ (taskIn f < 16) × (chainIn f < 8) × (entryIn f < 16) ⌝ }
+    ensures { λ r. ⌜ r ≡ next (kindBy edition) tasks entries f ⌝ }
 {
     match f {
         Field::Mark => Field::Edition,
         Field::Edition => Field::Count,
-        Field::Count => task_opening(s, 0),
+        Field::Count => task_opening(edition, tasks, 0),
         Field::Period(i) => Field::Budget(i),
         Field::Budget(i) => Field::Rank(i),
-        Field::Rank(i) => task_after(s, i),
+        Field::Rank(i) => task_opening(edition, tasks, i + 1),
         Field::Chains => Field::Limit(0),
         Field::Limit(c) => Field::Length(c),
-        Field::Length(c) => entry_opening(s, c, 0),
-        Field::Entry(c, i) => entry_after(s, c, i),
+        Field::Length(c) => entry_opening(edition, entries, c, 0),
+        Field::Entry(c, i) => entry_opening(edition, entries, c, i + 1),
     }
 }
 
@@ -357,36 +373,29 @@ fn judge_entry(count: u8, chain: Chain, i: u8) -> Verdict
     fresh(8, &own, i)
 }
 
-// A field that has a place.
-fn judge_field(s: Sheet, f: Field) -> Verdict
-    requires { ⌜ (taskIn f < 16) × (chainIn f < 8) ⌝ }
-    ensures { λ r. ⌜ told r ≡ judged (kindOf (value s)) (value s) f ⌝ }
+// A field, by the sheet's counts, the field's own task and chain, and all ranks: a copy of the sheet for each would cost more than the rest.
+fn judge_field(
+    edition: u8,
+    count: u8,
+    suite: u8,
+    task: Task,
+    ranks: [u8; 16],
+    chain: Chain,
+    f: Field,
+) -> Verdict
+    ensures { λ r. ⌜ told r ≡ judgedBy edition count suite task ranks chain f ⌝ }
 {
     match f {
         Field::Mark => Verdict::Fine,
-        Field::Edition => ranged(16, 2, 2, wide(s.edition)),
-        Field::Count => ranged(2, 1, 16, wide(s.count)),
-        Field::Period(i) => {
-            let k = i as usize;
-            ranged(3, 1, 100000, s.tasks[k].period)
-        }
-        Field::Budget(i) => {
-            let k = i as usize;
-            let t = s.tasks[k];
-            ranged(4, 1, t.period, t.budget)
-        }
-        Field::Rank(i) => {
-            let ranks = ranks_of(s);
-            fresh(5, &ranks, i)
-        }
-        Field::Chains => ranged(17, 1, 8, wide(s.suite)),
-        Field::Limit(c) => ranged(13, 0, 4000000, limit_of(s, c)),
-        Field::Length(c) => ranged(6, 1, wide(s.count), wide(length_of(s, c))),
-        Field::Entry(c, i) => {
-            let j = c as usize;
-            let own = s.chains[j];
-            judge_entry(s.count, own, i)
-        }
+        Field::Edition => ranged(16, 2, 2, wide(edition)),
+        Field::Count => ranged(2, 1, 16, wide(count)),
+        Field::Period(_) => ranged(3, 1, 100000, task.period),
+        Field::Budget(_) => ranged(4, 1, task.period, task.budget),
+        Field::Rank(i) => fresh(5, &ranks, i),
+        Field::Chains => ranged(17, 1, 8, wide(suite)),
+        Field::Limit(_) => ranged(13, 0, 4000000, chain.limit),
+        Field::Length(_) => ranged(6, 1, wide(count), wide(chain.length)),
+        Field::Entry(_, i) => judge_entry(count, chain, i),
     }
 }
 
@@ -450,20 +459,26 @@ fn end_of(s: Sheet) -> u32
 fn judge_fields(s: Sheet, len: usize) -> Verdict
     ensures { λ r. ⌜ told r ≡ inOrder (judgedIn (len * 8) (value s)) 0 (fields (value s)) ⌝ }
 {
+    let tasks = tasks_of(s);
+    let ranks = ranks_of(s);
     let end = end_of(s);
-    let mut f = opening_of(s);
+    let mut f = opening_of(s.edition);
     let mut at = 0u32;
     while at < end {
         let next = at + width_of(f);
         if len < ((next + 7) / 8) as usize {
             return Verdict::No(Refusal::With(1, at));
         }
-        let found = judge_field(s, f);
+        let i = task_in(f);
+        let c = chain_in(f);
+        let task = s.tasks[i];
+        let chain = s.chains[c];
+        let found = judge_field(s.edition, s.count, s.suite, task, ranks, chain, f);
         let v = with_offset(found, at);
         let Verdict::Fine = v else {
             return v;
         };
-        f = next_of(s, f);
+        f = next_of(s.edition, tasks, taken(chain.length, 16), f);
         at = next;
     }
     Verdict::Fine
@@ -480,13 +495,15 @@ pub fn judge(s: Sheet) -> Verdict
 fn put_fields(out: &mut [u8], s: Sheet)
     ensures { λ r. ⌜ unpack (now (out .exit)) ≡ sets (unpack (now (out .entry))) 0 (packed s) ⌝ }
 {
+    let tasks = tasks_of(s);
     let end = end_of(s);
-    let mut f = opening_of(s);
+    let mut f = opening_of(s.edition);
     let mut at = 0u32;
     while at < end {
         let width = width_of(f);
         bits::put(&mut *out, at, width, value_of(s, f));
-        f = next_of(s, f);
+        let c = chain_in(f);
+        f = next_of(s.edition, tasks, taken(s.chains[c].length, 16), f);
         at += width;
     }
 }
@@ -587,11 +604,11 @@ fn chains_at(bytes: &[u8], width: u32, at: u32, k: u8) -> [Chain; 8]
 fn edition_at(bytes: &[u8]) -> u8
     ensures { λ r. ⌜ r ≡ cond (eqb (number (unpack (now (bytes .entry))) 5 4) 1) 0 (number (unpack (now (bytes .entry))) 5 4) ⌝ }
 {
-    let edition = bits::number(bytes, MARK_BITS, EDITION_BITS);
-    if edition == 1 {
+    let spelt = bits::number(bytes, MARK_BITS, EDITION_BITS);
+    if spelt == 1 {
         return 0;
     }
-    edition as u8
+    spelt as u8
 }
 
 fn spell_new(bytes: &[u8]) -> Sheet
@@ -826,6 +843,16 @@ pub fn to_first(s: Sheet) -> Reading
         verdict: back,
         sheet,
     }
+}
+
+// How many chains a sheet has; an old sheet has one.
+pub fn chain_count(s: Sheet) -> u8
+    ensures { λ r. ⌜ ChainCountPromise s r ⌝ }
+{
+    if s.edition == 1 {
+        return 1;
+    }
+    s.suite
 }
 
 // 17 for a chain number that the sheet lacks; an old sheet has chain 1 alone.

@@ -6,8 +6,8 @@ use lib.ListN.{set}
 use Rattle.bits.specs.Bits.{listOf}
 use Rattle.sheet.specs.PlaceLaws.{places-set}
 use Rattle.sheet.specs.Tasks.{chainCount}
+use Rattle.sheet.specs.TaskLaws.{number-known, chains-most}
 use Rattle.chain.specs.Calls.{summaryAt, noSummary, summariesTo}
-use Rattle.chain.specs.SuiteLaws.{number-known, suite-most}
 use borrow.Author.Needs.{needs}
 use Rattle.chain.proofs.each_summary.Statement.{statement}
 use Rattle.chain.proofs.each_summary.Tie as tie
@@ -28,7 +28,7 @@ loop-holds c = (omega arith, c .before .chain-count .ensures, c .no-summaries .e
 
 -- A turn is one of eight.
 few : (c : tie.In-loop Inv-loop μ-loop) → c .before .loop .c < 8
-few c = let turn = c .before in omega (arith, turn .loop .inv, suite-most (start turn .pre .0 .0))
+few c = let turn = c .before in omega (arith, turn .loop .inv, chains-most (start turn .pre .0 .0))
 
 add-summary-of : tie.Need-add-summary-of Inv-loop μ-loop
 add-summary-of c = omega (arith, few c)

@@ -6,11 +6,12 @@ use native.Mathlib.Omega.{arith}
 use lib.IntN.{ℤ}
 use mir.Syntax.{w32}
 use mir.ValLaws.{toZ-ofZ}
+use Rattle.theory.specs.Model.Flag.{fromFlag}
 use Rattle.theory.specs.declared.Task.{Task}
-use Rattle.sheet.specs.Tasks.{tasksOf, chainOf}
+use Rattle.sheet.specs.Tasks.{tasksOf, chainOf, firstOf}
 use Rattle.schedule.specs.declared.answer.Totals.{Totals}
 use Rattle.chain.specs.declared.answer.Figure.{Figure}
-use Rattle.chain.specs.Calls.{figureOf, quickBound, fromFlag, less, reportLimit, summaryOf}
+use Rattle.chain.specs.Calls.{figureOf, quickBound, less, reportLimit, summaryOf}
 use Rattle.chain.specs.Conditions.{TakenChain, mostFigure}
 use Rattle.chain.specs.CallLaws.{sheet-chain}
 use Rattle.chain.specs.Largest.{sampling-most, quick-most, worst-most}
@@ -34,7 +35,7 @@ abbrev known : tie.After-from-flag → tie.After-figure-and-bound
 known c = c .before .before .before
 
 worst-is : (c : tie.After-from-flag) → let a = start (known c) .args in
-    c .from-flag .result ≡ fromFlag (tasksOf (a .s)) (chainOf (a .s) (a .number)) (known c .figure-and-bound .result .figure .ticks)
+    c .from-flag .result ≡ fromFlag (tasksOf (a .s)) (firstOf (chainOf (a .s) (a .number))) (known c .figure-and-bound .result .figure .ticks)
 worst-is c = omega (arith, c .from-flag .ensures, c .before .first-period .ensures .0)
 
 from-flag-requires : tie.Need-from-flag-requires
@@ -52,7 +53,7 @@ less-of-requires c κs =
 
 -- The summary is made of its parts.
 summary-is : (ts : List Task) (chain : List ℕ) (totals : Totals) (limit : ℕ) {figure : Figure} {quick w b : ℕ} {z : ℤ}
-    → figure ≡ figureOf ts chain → quick ≡ quickBound ts chain → w ≡ fromFlag ts chain (figure .ticks) → b ≡ fromFlag ts chain quick → z ≡ less limit w
+    → figure ≡ figureOf ts chain → quick ≡ quickBound ts chain → w ≡ fromFlag ts (firstOf chain) (figure .ticks) → b ≡ fromFlag ts (firstOf chain) quick → z ≡ less limit w
     → summaryOf ts chain limit totals ≡ record { totals = totals; sampling = figure; «sampling_bound» = quick; worst = w; bound = b; margin = z }
 summary-is ts chain totals limit f q w b z = rw (z, b, w, q, f) refl
 
@@ -63,7 +64,7 @@ returns c =
     let w = b .before in
     let k = known w in
     let a = start k .args in
-    let bound-is : b .from-flag2 .result ≡ fromFlag (tasksOf (a .s)) (chainOf (a .s) (a .number)) (k .figure-and-bound .result .bound) =
+    let bound-is : b .from-flag2 .result ≡ fromFlag (tasksOf (a .s)) (firstOf (chainOf (a .s) (a .number))) (k .figure-and-bound .result .bound) =
     omega (arith, b .from-flag2 .ensures, w .before .first-period .ensures .0) in
     let read = toZ-ofZ w32 (c .less-of .result) (record { sfits = c .less-of .ok }) in
     rw read (sym (summary-is (tasksOf (a .s)) (chainOf (a .s) (a .number)) (a .totals) (reportLimit (a .s) (a .number)) (k .figure-and-bound .ensures .0) (k .figure-and-bound .ensures .1)

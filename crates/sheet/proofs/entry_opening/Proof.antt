@@ -5,19 +5,18 @@ use Prim.Native.Nat.{_+_, _-_}
 use native.Mathlib.Omega.{arith}
 use borrow.Author.Tests.{lt-ltb, le-ltb}
 use Rattle.sheet.specs.declared.Field.the-variants.{Entry}
-use Rattle.sheet.specs.Fields.{kindOf, entries, value}
-use Rattle.sheet.specs.Order.{chainOpening}
+use Rattle.sheet.specs.Order.{kindBy, chainOpening}
 use borrow.Author.Needs.{needs}
 use Rattle.sheet.proofs.entry_opening.Statement.{statement}
 use Rattle.sheet.proofs.entry_opening.Tie as tie
 
 returns : tie.Need-returns
-returns c = let a = c .before .before .args in sym (ap (λ b. cond b (Entry (a .c) (a .i)) (chainOpening (kindOf (value (a .s))) (a .c + 1))) (lt-ltb (a .i) (entries (value (a .s)) (a .c)) (omega (arith, c .before .entries-in .ensures))))
+returns c = let a = c .before .args in sym (ap (λ b. cond b (Entry (a .c) (a .i)) (chainOpening (kindBy (a .edition)) (a .c + 1))) (lt-ltb (a .i) (a .entries) (omega arith)))
 
 returns-2 : tie.Need-returns-2
-returns-2 c = let a = c .before .before .before .args in c .chain-opening .ensures ∙ sym (ap (λ b. cond b (Entry (a .c) (a .i)) (chainOpening (kindOf (value (a .s))) (a .c + 1))) (le-ltb (a .i) (entries (value (a .s)) (a .c)) (omega (arith, c .before .before .entries-in .ensures))))
+returns-2 c = let a = c .before .before .args in c .chain-opening .ensures ∙ sym (ap (λ b. cond b (Entry (a .c) (a .i)) (chainOpening (kindBy (a .edition)) (a .c + 1))) (le-ltb (a .i) (a .entries) (omega arith)))
 
 pub entry-opening-spec : {M : Type 1} → statement M
 entry-opening-spec =
     tie.close
-    (tie.spec (λ c κs. search needs) returns (λ c. search needs) (λ c κs. search needs) returns-2)
+    (tie.spec returns (λ c. search needs) (λ c κs. search needs) returns-2)

@@ -1,8 +1,8 @@
 -- An old sheet has one, and a new one as many as it says.
 use borrow.Author.Tests.{eq-eqb, ne-eqb}
 use borrow.Author.Needs.{needs}
-use Rattle.chain.proofs.chain_count.Statement.{statement}
-use Rattle.chain.proofs.chain_count.Tie as tie
+use Rattle.sheet.proofs.chain_count.Statement.{statement}
+use Rattle.sheet.proofs.chain_count.Tie as tie
 
 returns : tie.Need-returns
 returns c = rw (eq-eqb _ _ (c .if1 .taken))

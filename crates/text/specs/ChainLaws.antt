@@ -1,14 +1,14 @@
 -- What a chain line of a shown text does to a reading: it adds its chain.
 use mathlib.Core.Path.{_≡_, refl, sym, ap, ap₂, _∙_}
-use mathlib.Core.Bool.{Bool, true, false, cond}
-use mathlib.Core.List.{List, [], _∷_, _++_, append-assoc}
+use mathlib.Core.Bool.{true, false, cond}
+use mathlib.Core.List.{List, _∷_, _++_, append-assoc}
 use mathlib.Core.Logic.{_⊎_, inl, inr}
 use Prim.Native.Nat.{ℕ, zero, suc, _+_, _≤_, _<_, min}
 use native.Mathlib.Omega.{arith}
-use lib.Dec.{ltb, leb, eqb}
+use lib.Dec.{eqb}
 use lib.ListN.{length, getD, set}
 use lib.Seq.{getD-set-same, set-set}
-use borrow.Author.Tests.{lt-ltb, lt-leb, eq-eqb, ne-eqb}
+use borrow.Author.Tests.{lt-ltb, lt-leb}
 use Rattle.bits.specs.Bits.{listOf}
 use Rattle.theory.specs.declared.Task.{Task}
 use Rattle.sheet.specs.declared.Chain.{Chain}
@@ -16,12 +16,12 @@ use Rattle.sheet.specs.Fields.{among}
 use Rattle.sheet.specs.Calls.{places, unused}
 use Rattle.sheet.specs.PlaceLaws.{places-taken, places-set}
 use Rattle.text.specs.declared.Draft.{Draft}
-use Rattle.text.specs.Shown.{numeral, taskWord, chainWord, limitWord, newLine, spaced, joined, entryWord, entryWords, limitWords, chainLine}
+use Rattle.text.specs.Shown.{numeral, chainWord, limitWord, joined, entryWord}
 use Rattle.text.specs.Words.{ends, same, every, keyword, saying, says}
 use Rattle.text.specs.Grammar.{wanting, failing, withChain, more, unless, ranged, low, opened, repeated, entryWrong, wordWrong, atEntry, atLimit, atLimitNumber, atMore, atChains, table, step, lineEnd}
 use Rattle.text.specs.Run.{run}
 use Rattle.text.specs.NumeralLaws.{numeral-long}
-use Rattle.text.specs.RunWords.{Plain, stops, word-run, next-run, line-run}
+use Rattle.text.specs.RunWords.{stops, word-run, next-run, line-run}
 use Rattle.text.specs.SaysLaws.{taskName, numeral-plain, name-plain, says-number, says-known}
 use Rattle.text.specs.LineLaws.{allowed, not-among, low-is, names, known, name-long, next}
 

@@ -1,6 +1,6 @@
 -- A text read word by word: what is wanted next, and what each word adds to the sheet. What is not wanted, or not allowed, is wrong: a mistake
 -- by what was wanted (1 to 18) or by its own number (19 to 24), a refusal by its number and 100.
-use mathlib.Core.Bool.{Bool, true, false, cond}
+use mathlib.Core.Bool.{cond}
 use mathlib.Core.List.{List, [], _∷_}
 use Prim.Native.Nat.{ℕ, _+_, min}
 use lib.Dec.{ltb, leb, eqb}

@@ -1,28 +1,28 @@
 -- What the lines of a shown text do to a reading: a task line adds its task, a chain line its chain.
 use mathlib.Core.Path.{_≡_, refl, sym, ap, ap₂, _∙_}
-use mathlib.Core.Bool.{Bool, true, false, cond}
+use mathlib.Core.Bool.{true, false, cond}
 use mathlib.Core.List.{List, [], _∷_, _++_, append-assoc}
 use mathlib.Core.Logic.{_⊎_, inl, inr}
 use Prim.Native.Nat.{ℕ, zero, suc, _+_, _≤_, _<_, min}
 use native.Mathlib.Omega.{arith}
-use lib.Dec.{ltb, leb, eqb}
-use lib.ListN.{length, getD, set, length-append, length-set}
+use lib.Dec.{eqb}
+use lib.ListN.{length, getD, set, length-append}
 use lib.Seq.{getD-set-same, getD-set-other, set-set}
-use borrow.Author.Tests.{lt-ltb, le-ltb, lt-leb, eq-eqb, ne-eqb}
+use borrow.Author.Tests.{lt-ltb, le-ltb, ne-eqb}
 use Rattle.theory.specs.declared.Task.{Task}
 use Rattle.theory.specs.Model.Schedule.{none}
 use Rattle.sheet.specs.declared.Chain.{Chain}
 use Rattle.sheet.specs.Fields.{outside, among}
-use Rattle.sheet.specs.Calls.{places, unused}
-use Rattle.sheet.specs.PlaceLaws.{length-places, places-taken, places-set}
+use Rattle.sheet.specs.Calls.{places}
+use Rattle.sheet.specs.PlaceLaws.{places-taken, places-set}
 use Rattle.text.specs.declared.Draft.{Draft}
-use Rattle.text.specs.Shown.{numeral, taskWord, periodWord, budgetWord, rankWord, chainWord, limitWord, newLine, spaced, taskLine, joined, entryWord}
+use Rattle.text.specs.Shown.{numeral, taskWord, periodWord, budgetWord, rankWord, newLine, spaced, taskLine}
 use Rattle.text.specs.Words.{ends, same, every, keyword, saying, says}
-use Rattle.text.specs.Grammar.{wanting, failing, withTask, taskIn, taskMore, withChain, chainIn, more, unless, ranged, orElse, low, opened, atPeriod, atBudget, ranked, atRank, repeated, entryWrong, wordWrong, atEntry, atLimit, atLimitNumber, atKey, atName, atOpening, atMore, atChains, table, step, lineEnd}
+use Rattle.text.specs.Grammar.{wanting, failing, withTask, taskMore, unless, ranged, orElse, low, atPeriod, atBudget, ranked, atRank, atKey, atName, atOpening, atMore, table, step, lineEnd}
 use Rattle.text.specs.Run.{run}
 use Rattle.text.specs.NumeralLaws.{numeral-long}
-use Rattle.text.specs.RunWords.{Plain, stops, kept, word-run, next-run, line-run}
-use Rattle.text.specs.SaysLaws.{taskName, numeral-plain, name-plain, says-number, says-new, says-known}
+use Rattle.text.specs.RunWords.{stops, word-run, next-run, line-run}
+use Rattle.text.specs.SaysLaws.{taskName, numeral-plain, name-plain, says-number, says-new}
 
 pub allowed : (least most x : ℕ) → least ≤ x → x ≤ most → outside least most x ≡ false
 allowed least most x a b = ap₂ (λ s t. cond s true t) (le-ltb x least a) (le-ltb most x b)

@@ -1,12 +1,12 @@
 -- The shown text of a sheet that is judged fine, read line by line.
 use mathlib.Core.Path.{_≡_, refl, sym, ap, ap₂, _∙_, subst}
-use mathlib.Core.Bool.{Bool, true, false, cond}
+use mathlib.Core.Bool.{cond}
 use mathlib.Core.List.{List, [], _∷_, _++_, append-assoc, append-nil}
 use mathlib.Core.Logic.{_⊎_, inl, inr}
-use Prim.Native.Nat.{ℕ, zero, suc, _+_, _*_, _≤_, _<_, min}
+use Prim.Native.Nat.{ℕ, zero, suc, _+_, _≤_, _<_, min}
 use native.Mathlib.Omega.{arith}
 use native.Mathlib.Decide.{ℕ-discrete}
-use lib.Dec.{ltb, eqb}
+use lib.Dec.{eqb}
 use lib.ListN.{getD, set}
 use borrow.Author.Tests.{ne-eqb}
 use Rattle.bits.specs.Bits.{listOf}
@@ -15,7 +15,7 @@ use Rattle.theory.specs.Model.Schedule.{none}
 use Rattle.sheet.specs.declared.Chain.{Chain}
 use Rattle.sheet.specs.declared.Sheet.{Sheet}
 use Rattle.sheet.specs.Fields.{Values, Kind, old, new, kindOf, chains, idle, value}
-use Rattle.sheet.specs.Calls.{places, unused, RanksFit, taskBy, chainBy, editionBy, sheetBy, cleared}
+use Rattle.sheet.specs.Calls.{places, unused, RanksFit, taskBy, chainBy, sheetBy, cleared}
 use Rattle.sheet.specs.PlaceLaws.{length-places, places-taken, places-set, places-none}
 use Rattle.sheet.specs.SameLaws.{sheet-is}
 use Rattle.sheet.specs.StepLaws.{old-sheet, new-sheet}
@@ -23,8 +23,8 @@ use Rattle.sheet.specs.Sound.{Within, Sound}
 use Rattle.text.specs.declared.Draft.{Draft}
 use Rattle.text.specs.Shown.{numeral, taskLine, joined, entryWord, limitWord, limitWords, chainWord, chainLine, newLine, chainCount, textOf}
 use Rattle.text.specs.Grammar.{fresh, lineEnd, textEnd, typed}
-use Rattle.text.specs.Run.{Ending, run, nameless}
-use Rattle.text.specs.LineLaws.{names, next, taskOf, tasked, task-run}
+use Rattle.text.specs.Run.{run, nameless}
+use Rattle.text.specs.LineLaws.{names, next, tasked, task-run}
 use Rattle.text.specs.ChainLaws.{chainOf, chained, old-run, new-run}
 
 -- ---- the form of a chain's line

@@ -1,8 +1,8 @@
 -- Reading the shown text gives back the same sheet, from call to call.
-use mathlib.Core.Path.{_≡_, refl, sym, ap, ap₂, _∙_}
+use mathlib.Core.Path.{_≡_, sym, ap, ap₂, _∙_}
 use mathlib.Core.Bool.{cond}
 use mathlib.Core.List.{List, []}
-use Prim.Native.Nat.{ℕ, _≤_}
+use Prim.Native.Nat.{ℕ}
 use native.Mathlib.Omega.{arith}
 use lib.Dec.{ltb}
 use lib.ListN.{length, take, drop}
@@ -16,7 +16,6 @@ use Rattle.sheet.specs.Calls.{judgeOf, RanksFit, cleared}
 use Rattle.sheet.specs.SoundLaws.{judged-sound}
 use Rattle.text.specs.declared.Parsed.{Parsed}
 use Rattle.text.specs.Shown.{textOf}
-use Rattle.text.specs.Grammar.{typed}
 use Rattle.text.specs.Run.{faulty, settled, parseOf}
 use Rattle.text.specs.Calls.{showOf}
 use Rattle.text.specs.Promises.{ShowPromise, ParsePromise}

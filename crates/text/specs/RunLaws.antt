@@ -1,7 +1,7 @@
 -- Laws of the reading, byte by byte: what is left of a text gives the whole.
 use mathlib.Core.Path.{_≡_, refl, sym, ap, ap₂, _∙_}
 use mathlib.Core.Bool.{Bool, true, false, cond}
-use mathlib.Core.List.{List, [], _∷_, map}
+use mathlib.Core.List.{List, []}
 use Prim.Native.Nat.{ℕ, suc, _+_, _-_, _≤_, _<_}
 use native.Mathlib.Omega.{arith}
 use lib.Dec.{eqb}
@@ -9,7 +9,6 @@ use lib.ListN.{length, getD, set, take, drop, replicate, length-drop, length-set
 use lib.Seq.{drop-cons}
 use borrow.Author.Tests.{eq-eqb, ne-eqb}
 use Rattle.text.specs.declared.Draft.{Draft}
-use Rattle.text.specs.declared.Parsed.{Parsed}
 use Rattle.text.specs.Words.{word}
 use Rattle.text.specs.Grammar.{typed}
 use Rattle.text.specs.Run.{Ending, placeAfter, begins, turn, named, run, nameless, lineAfter, columnAfter, faulty, settled}

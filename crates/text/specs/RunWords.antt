@@ -2,7 +2,7 @@
 use mathlib.Core.Path.{_≡_, refl, sym, ap, ap₂, _∙_}
 use mathlib.Core.Bool.{Bool, true, false, cond, not}
 use mathlib.Core.List.{List, [], _∷_, _++_}
-use Prim.Native.Nat.{ℕ, suc, _≤_}
+use Prim.Native.Nat.{ℕ, _≤_}
 use native.Mathlib.Omega.{arith}
 use lib.Dec.{eqb}
 use lib.ListN.{length, set}
@@ -10,7 +10,7 @@ use borrow.Author.Tests.{eq-eqb, ne-eqb}
 use Rattle.text.specs.declared.Draft.{Draft}
 use Rattle.text.specs.Words.{ends, word, every, says}
 use Rattle.text.specs.Grammar.{step, lineEnd}
-use Rattle.text.specs.Run.{Ending, placeAfter, begins, turn, named, run}
+use Rattle.text.specs.Run.{placeAfter, begins, turn, named, run}
 
 -- A word ends here.
 unfoldable pub stops : List ℕ → Bool

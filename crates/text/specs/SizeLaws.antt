@@ -13,7 +13,7 @@ use Rattle.theory.specs.Model.Schedule.{none}
 use Rattle.sheet.specs.declared.Chain.{Chain}
 use Rattle.sheet.specs.declared.Sheet.{Sheet}
 use Rattle.sheet.specs.Fields.{idle}
-use Rattle.text.specs.Shown.{places, numeral, taskWord, periodWord, budgetWord, rankWord, chainWord, limitWord, newLine, spaced, taskLine, taskLines, joined, entryWord, entryWords, limitWords, chainLine, chainLines, chainCount, textOf}
+use Rattle.text.specs.Shown.{places, numeral, limitWord, newLine, spaced, taskLine, taskLines, joined, entryWord, entryWords, limitWords, chainLine, chainLines, chainCount, textOf}
 use Rattle.text.specs.NumeralLaws.{places-most}
 
 length-digits : (k n : ℕ) → length (digits 10 k n) ≡ k

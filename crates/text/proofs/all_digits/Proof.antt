@@ -60,4 +60,7 @@ returns-3 c =
     sym (l .inv ∙ every-none digit (word-none text (l .i) (omega arith)))
 
 pub all-digits-spec : {M : Type 1} → statement M
-all-digits-spec = tie.close (tie.spec Inv-loop μ-loop loop-holds (λ c. search needs) (λ c κs. search needs) returns (λ c κs. search needs) (λ c. search needs) (λ c. search needs) loop-again returns-2 returns-3)
+all-digits-spec =
+    tie.close
+    (tie.spec Inv-loop μ-loop loop-holds (λ c. search needs) (λ c κs. search needs) returns (λ c κs. search needs)
+    (λ c. search needs) (λ c. search needs) loop-again returns-2 returns-3)

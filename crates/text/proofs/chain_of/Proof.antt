@@ -13,17 +13,17 @@ use Rattle.text.proofs.chain_of.Tie as tie
 
 returns : tie.Need-returns
 returns c =
-    let at-args = c .before .before in
-    let d = at-args .args .t1 in
-    let long : length (d .chains) ≡ 8 = sym (length-map (d .chains) _) ∙ at-args .good .0 .1 .1 .1 .0 .1 .0 .1 in
+    let at-good = c .before .before in
+    let d = at-good .args .t1 in
+    let long : length (d .chains) ≡ 8 = sym (length-map (d .chains) _) ∙ at-good .good .0 .1 .1 .1 .0 .1 .0 .1 in
     getD-any (d .chains) (d .suite) idle unused (omega arith)
 
 returns-2 : tie.Need-returns-2
 unfolding listOf
 returns-2 c =
-    let at-args = c .before in
-    let d = at-args .args .t1 in
-    let long : length (d .chains) ≡ 8 = sym (length-map (d .chains) _) ∙ at-args .good .0 .1 .1 .1 .0 .1 .0 .1 in
+    let at-good = c .before in
+    let d = at-good .args .t1 in
+    let long : length (d .chains) ≡ 8 = sym (length-map (d .chains) _) ∙ at-good .good .0 .1 .1 .1 .0 .1 .0 .1 in
     sym (List·getD-eq-default (d .chains) unused (omega arith))
 
 pub chain-of-spec : {M : Type 1} → statement M

@@ -1,7 +1,7 @@
 -- The two arms are the definition's.
 use mathlib.Core.Path.{sym, ap, _∙_}
 use mathlib.Core.Bool.{cond}
-use Prim.Native.Nat.{ℕ, min}
+use Prim.Native.Nat.{min}
 use native.Mathlib.Omega.{arith}
 use borrow.Author.Tests.{eq-eqb, ne-eqb}
 use borrow.Author.Needs.{needs}

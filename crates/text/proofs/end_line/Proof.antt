@@ -26,4 +26,7 @@ returns c =
     (at-choose .choose .ensures ∙ ap₂ (λ x y. cond (eqb (d .want) 18) x y) (at-wants .wants .ensures ∙ ap (wanting 4) (at-count-chain .count-chain .ensures)) (at-fails .fails .ensures))))
 
 pub end-line-spec : {M : Type 1} → statement M
-end-line-spec = tie.close (tie.spec (λ c κs. search needs) (λ c κs. search needs) (λ c κs. search needs) (λ c κs. search needs) (λ c κs. search needs) (λ c κs. search needs) (λ c κs. search needs) (λ c κs. search needs) (λ c κs. search needs) returns)
+end-line-spec =
+    tie.close
+    (tie.spec (λ c κs. search needs) (λ c κs. search needs) (λ c κs. search needs) (λ c κs. search needs) (λ c κs. search needs)
+    (λ c κs. search needs) (λ c κs. search needs) (λ c κs. search needs) (λ c κs. search needs) returns)

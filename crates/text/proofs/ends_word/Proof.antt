@@ -19,4 +19,6 @@ returns c =
     ∙ ap (λ x. cond (eqb b 32) true x) (at-either3 .either3 .ensures ∙ ap (λ x. cond (eqb b 9) true x) (at-either2 .either2 .ensures ∙ ap (λ x. cond (eqb b 13) true x) (at-either .either .ensures)))
 
 pub ends-word-spec : {M : Type 1} → statement M
-ends-word-spec = tie.close (tie.spec (λ c κs. search needs) (λ c κs. search needs) (λ c κs. search needs) (λ c κs. search needs) returns)
+ends-word-spec =
+    tie.close
+    (tie.spec (λ c κs. search needs) (λ c κs. search needs) (λ c κs. search needs) (λ c κs. search needs) returns)

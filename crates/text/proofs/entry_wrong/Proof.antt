@@ -9,4 +9,7 @@ unfolding entryWrong
 returns c = cc
 
 pub entry-wrong-spec : {M : Type 1} → statement M
-entry-wrong-spec = tie.close (tie.spec (λ c. search needs) (λ c κs. search needs) (λ c κs. search needs) (λ c κs. search needs) (λ c κs. search needs) (λ c κs. search needs) returns)
+entry-wrong-spec =
+    tie.close
+    (tie.spec (λ c. search needs) (λ c κs. search needs) (λ c κs. search needs) (λ c κs. search needs) (λ c κs. search needs)
+    (λ c κs. search needs) returns)

@@ -22,4 +22,7 @@ returns c =
     (at-either3 .either3 .ensures ∙ ap₂ (λ t x. cond t true x) (at-lies-between .lies-between .ensures) (at-either2 .either2 .ensures ∙ ap₂ (λ t x. cond t true x) (at-lies-between2 .lies-between2 .ensures) (at-either .either .ensures)))
 
 pub in-name-spec : {M : Type 1} → statement M
-in-name-spec = tie.close (tie.spec (λ c κs. search needs) (λ c κs. search needs) (λ c κs. search needs) (λ c κs. search needs) (λ c κs. search needs) (λ c κs. search needs) (λ c κs. search needs) returns)
+in-name-spec =
+    tie.close
+    (tie.spec (λ c κs. search needs) (λ c κs. search needs) (λ c κs. search needs) (λ c κs. search needs) (λ c κs. search needs)
+    (λ c κs. search needs) (λ c κs. search needs) returns)

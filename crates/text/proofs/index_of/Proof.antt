@@ -59,4 +59,7 @@ returns-2 c =
     sym (l .inv .1 ∙ index-none (namesAt (a .text .now) (a .starts .now)) (l .j) (word (drop (a .at) (a .text .now))) (omega arith))
 
 pub index-of-spec : {M : Type 1} → statement M
-index-of-spec = tie.close (tie.spec Inv-loop μ-loop loop-holds (λ c. search needs) (λ c κs. search needs) (λ c κs. search needs) returns (λ c. search needs) loop-again returns-2)
+index-of-spec =
+    tie.close
+    (tie.spec Inv-loop μ-loop loop-holds (λ c. search needs) (λ c κs. search needs) (λ c κs. search needs) returns
+    (λ c. search needs) loop-again returns-2)

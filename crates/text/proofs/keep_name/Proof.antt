@@ -49,4 +49,6 @@ returns-4 c =
     sym (ap (λ t. kept t (eqb (a .want) 7) (set old (a .count) (a .at)) old) (c .if1 .left))
 
 pub keep-name-spec : {M : Type 1} → statement M
-keep-name-spec = tie.close (tie.spec (λ c. search needs) (λ c. search needs) (λ c. search needs) returns returns-2 returns-3 returns-4)
+keep-name-spec =
+    tie.close
+    (tie.spec (λ c. search needs) (λ c. search needs) (λ c. search needs) returns returns-2 returns-3 returns-4)

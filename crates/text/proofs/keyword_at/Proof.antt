@@ -27,4 +27,8 @@ returns c =
     ∙ ap (λ k. cond (same w rankWord) 5 k) (at-keyword-or2 .keyword-or2 .ensures ∙ ap (λ k. cond (same w chainWord) 6 k) (at-keyword-or .keyword-or .ensures))))))
 
 pub keyword-at-spec : {M : Type 1} → statement M
-keyword-at-spec = tie.close (tie.spec (λ c. search needs) (λ c κs. search needs) (λ c. search needs) (λ c κs. search needs) (λ c. search needs) (λ c κs. search needs) (λ c. search needs) (λ c κs. search needs) (λ c. search needs) (λ c κs. search needs) (λ c. search needs) (λ c κs. search needs) (λ c. search needs) (λ c κs. search needs) returns)
+keyword-at-spec =
+    tie.close
+    (tie.spec (λ c. search needs) (λ c κs. search needs) (λ c. search needs) (λ c κs. search needs) (λ c. search needs)
+    (λ c κs. search needs) (λ c. search needs) (λ c κs. search needs) (λ c. search needs) (λ c κs. search needs) (λ c. search needs)
+    (λ c κs. search needs) (λ c. search needs) (λ c κs. search needs) returns)

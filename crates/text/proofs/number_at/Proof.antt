@@ -48,4 +48,7 @@ returns-2 c =
     sym (l .inv ∙ number-none (l .v) (word-none text (l .i) (omega arith)))
 
 pub number-at-spec : {M : Type 1} → statement M
-number-at-spec = tie.close (tie.spec Inv-loop μ-loop loop-holds (λ c. search needs) (λ c κs. search needs) returns (λ c κs. search needs) (λ c. search needs) (λ c. search needs) loop-again returns-2)
+number-at-spec =
+    tie.close
+    (tie.spec Inv-loop μ-loop loop-holds (λ c. search needs) (λ c κs. search needs) returns (λ c κs. search needs)
+    (λ c. search needs) (λ c. search needs) loop-again returns-2)

@@ -55,4 +55,6 @@ returns-3 c =
     ∙ sym (ap₂ (λ t x. judged t text x) (le-ltb 16384 (length text) (omega arith)) (e .ensures .0) ∙ settled-faulty text (e .result .draft) (e .result .at) (e .ensures .1) (λ q. omega (arith, at-if2 .if2)))
 
 pub parse-spec : {M : Type 1} → statement M
-parse-spec = tie.close (tie.spec faulty-at-requires returns (λ c κs. search needs) (λ c κs. search needs) returns-2 faulty-at-requires-2 returns-3)
+parse-spec =
+    tie.close
+    (tie.spec faulty-at-requires returns (λ c κs. search needs) (λ c κs. search needs) returns-2 faulty-at-requires-2 returns-3)

@@ -21,4 +21,7 @@ returns c =
     (puts-then word (puts-then (limit .0) (puts-then (entries .0) end)), omega (arith, word .ends, limit .1, entries .1, end .ends))
 
 pub put-chain-spec : {M : Type 1} → statement M
-put-chain-spec = tie.close (tie.spec (λ c. search needs) (λ c κs. search needs) (λ c κs. search needs) (λ c κs. search needs) (λ c. search needs) (λ c κs. search needs) (λ c. search needs) returns)
+put-chain-spec =
+    tie.close
+    (tie.spec (λ c. search needs) (λ c κs. search needs) (λ c κs. search needs) (λ c κs. search needs) (λ c. search needs)
+    (λ c κs. search needs) (λ c. search needs) returns)

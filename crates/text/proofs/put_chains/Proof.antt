@@ -68,4 +68,7 @@ returns c =
     (puts-same (ap (chainLines (a .t3 .edition) (a .t3 .chains)) {x = l .c} {y = chainCount (a .t3)} (omega (arith, l .inv .1))) (l .inv .6), omega (arith, l .inv .2, l .inv .3, l .inv .4))
 
 pub put-chains-spec : {M : Type 1} → statement M
-put-chains-spec = tie.close (tie.spec Inv-loop μ-loop (λ c κs. search needs) loop-holds (λ c. search needs) (λ c. search needs) element-copy-out-chain put-chain-requires (λ c. search needs) (λ c. search needs) loop-again same-length returns)
+put-chains-spec =
+    tie.close
+    (tie.spec Inv-loop μ-loop (λ c κs. search needs) loop-holds (λ c. search needs) (λ c. search needs) element-copy-out-chain
+    put-chain-requires (λ c. search needs) (λ c. search needs) loop-again same-length returns)

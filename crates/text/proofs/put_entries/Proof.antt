@@ -66,4 +66,7 @@ returns c =
     (puts-same (ap (entryWords (a .chain .entries)) {x = l .i} {y = min (a .chain .length) 16} (omega (arith, at-taken .taken .ensures))) (l .inv .5), omega (arith, l .inv .1, l .inv .2))
 
 pub put-entries-spec : {M : Type 1} → statement M
-put-entries-spec = tie.close (tie.spec Inv-loop μ-loop (λ c κs. search needs) loop-holds (λ c. search needs) array-read-put-entry put-entry-requires (λ c. search needs) (λ c. search needs) loop-again same-length returns)
+put-entries-spec =
+    tie.close
+    (tie.spec Inv-loop μ-loop (λ c κs. search needs) loop-holds (λ c. search needs) array-read-put-entry put-entry-requires
+    (λ c. search needs) (λ c. search needs) loop-again same-length returns)

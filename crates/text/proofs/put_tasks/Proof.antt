@@ -65,4 +65,7 @@ returns c =
     (puts-same (ap (taskLines (a .t2 .tasks)) {x = l .i} {y = min (a .t2 .count) 16} (omega (arith, l .inv .1))) (l .inv .4), omega (arith, l .inv .1, l .inv .2))
 
 pub put-tasks-spec : {M : Type 1} → statement M
-put-tasks-spec = tie.close (tie.spec Inv-loop μ-loop (λ c κs. search needs) loop-holds (λ c. search needs) (λ c. search needs) element-copy-out-t put-task-requires (λ c. search needs) (λ c. search needs) loop-again same-length returns)
+put-tasks-spec =
+    tie.close
+    (tie.spec Inv-loop μ-loop (λ c κs. search needs) loop-holds (λ c. search needs) (λ c. search needs) element-copy-out-t
+    put-task-requires (λ c. search needs) (λ c. search needs) loop-again same-length returns)

@@ -52,4 +52,6 @@ returns-2 c =
     sym (ap (λ b. cond b 105 0) (l .inv .1 ∙ among-none (λ x. getD (d .tasks) x none .rank) (l .j) (at-args .args .rank) (omega arith)))
 
 pub rank-wrong-spec : {M : Type 1} → statement M
-rank-wrong-spec = tie.close (tie.spec Inv-loop μ-loop loop-holds (λ c. search needs) (λ c κs. search needs) returns (λ c. search needs) loop-again returns-2)
+rank-wrong-spec =
+    tie.close
+    (tie.spec Inv-loop μ-loop loop-holds (λ c. search needs) (λ c κs. search needs) returns (λ c. search needs) loop-again returns-2)

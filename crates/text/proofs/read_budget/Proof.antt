@@ -20,4 +20,7 @@ returns c =
     ∙ ap (λ t. unless (ranged w 1 (t .period) 104 (d .want)) (wanting 12 (withTask (record { period = t .period; budget = w .value; rank = 0 }) d)) d) (at-task-of .task-of .ensures)
 
 pub read-budget-spec : {M : Type 1} → statement M
-read-budget-spec = tie.close (tie.spec (λ c κs. search needs) (λ c κs. search needs) (λ c κs. search needs) (λ c κs. search needs) (λ c κs. search needs) returns)
+read-budget-spec =
+    tie.close
+    (tie.spec (λ c κs. search needs) (λ c κs. search needs) (λ c κs. search needs) (λ c κs. search needs) (λ c κs. search needs)
+    returns)

@@ -19,4 +19,7 @@ returns c =
     ∙ ap₂ (λ x y. unless x y d) (at-range-wrong .range-wrong .ensures) (at-wants .wants .ensures ∙ ap (wanting 6) (at-says-edition .says-edition .ensures ∙ ap (λ k. withEdition k d) (at-low-of .low-of .ensures)))
 
 pub read-edition-spec : {M : Type 1} → statement M
-read-edition-spec = tie.close (tie.spec (λ c κs. search needs) (λ c κs. search needs) (λ c κs. search needs) (λ c κs. search needs) (λ c κs. search needs) returns)
+read-edition-spec =
+    tie.close
+    (tie.spec (λ c κs. search needs) (λ c κs. search needs) (λ c κs. search needs) (λ c κs. search needs) (λ c κs. search needs)
+    returns)

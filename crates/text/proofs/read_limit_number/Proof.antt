@@ -21,4 +21,7 @@ returns c =
     ∙ ap (λ c. wanting 17 (withChain (record { entries = c .entries; length = c .length; limit = w .value }) d)) (at-chain-of .chain-of .ensures))
 
 pub read-limit-number-spec : {M : Type 1} → statement M
-read-limit-number-spec = tie.close (tie.spec (λ c κs. search needs) (λ c κs. search needs) (λ c κs. search needs) (λ c κs. search needs) (λ c κs. search needs) returns)
+read-limit-number-spec =
+    tie.close
+    (tie.spec (λ c κs. search needs) (λ c κs. search needs) (λ c κs. search needs) (λ c κs. search needs) (λ c κs. search needs)
+    returns)

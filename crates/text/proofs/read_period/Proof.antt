@@ -18,4 +18,6 @@ returns c =
     ∙ ap₂ (λ x y. unless x y d) (at-range-wrong .range-wrong .ensures) (at-wants .wants .ensures ∙ ap (wanting 10) (at-puts-task .puts-task .ensures))
 
 pub read-period-spec : {M : Type 1} → statement M
-read-period-spec = tie.close (tie.spec (λ c κs. search needs) (λ c κs. search needs) (λ c κs. search needs) (λ c κs. search needs) returns)
+read-period-spec =
+    tie.close
+    (tie.spec (λ c κs. search needs) (λ c κs. search needs) (λ c κs. search needs) (λ c κs. search needs) returns)

@@ -26,4 +26,7 @@ returns c =
     ∙ ap₂ (λ t k. wanting 14 (taskMore (withTask (record { period = t .period; budget = t .budget; rank = k }) d))) (at-task-of .task-of .ensures) (at-low-of .low-of .ensures))
 
 pub read-rank-spec : {M : Type 1} → statement M
-read-rank-spec = tie.close (tie.spec (λ c κs. search needs) (λ c κs. search needs) (λ c κs. search needs) (λ c κs. search needs) (λ c κs. search needs) (λ c κs. search needs) (λ c κs. search needs) (λ c κs. search needs) (λ c κs. search needs) returns)
+read-rank-spec =
+    tie.close
+    (tie.spec (λ c κs. search needs) (λ c κs. search needs) (λ c κs. search needs) (λ c κs. search needs) (λ c κs. search needs)
+    (λ c κs. search needs) (λ c κs. search needs) (λ c κs. search needs) (λ c κs. search needs) returns)

@@ -52,4 +52,6 @@ returns-2 c =
     sym (ap (λ b. cond b 108 0) (l .inv .1 ∙ among-none (λ x. getD (a .values .now) x 0) (l .j) (a .entry) (omega arith)))
 
 pub repeat-wrong-spec : {M : Type 1} → statement M
-repeat-wrong-spec = tie.close (tie.spec Inv-loop μ-loop loop-holds (λ c. search needs) (λ c κs. search needs) returns (λ c. search needs) loop-again returns-2)
+repeat-wrong-spec =
+    tie.close
+    (tie.spec Inv-loop μ-loop loop-holds (λ c. search needs) (λ c κs. search needs) returns (λ c. search needs) loop-again returns-2)

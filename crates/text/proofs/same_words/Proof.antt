@@ -82,4 +82,8 @@ returns-3 c =
     c .ends-word3 .ensures ∙ ap ends (at-byte-at2 .byte-at2 .ensures) ∙ sym (l .inv ∙ same-nil b (l .y) (word-none a (l .x) (omega arith)))
 
 pub same-words-spec : {M : Type 1} → statement M
-same-words-spec = tie.close (tie.spec Inv-loop μ-loop loop-holds (λ c. search needs) (λ c κs. search needs) (λ c κs. search needs) (λ c κs. search needs) returns returns-2 (λ c. search needs) add-y (λ c. search needs) loop-again (λ c κs. search needs) (λ c κs. search needs) returns-3)
+same-words-spec =
+    tie.close
+    (tie.spec Inv-loop μ-loop loop-holds (λ c. search needs) (λ c κs. search needs) (λ c κs. search needs) (λ c κs. search needs)
+    returns returns-2 (λ c. search needs) add-y (λ c. search needs) loop-again (λ c κs. search needs) (λ c κs. search needs)
+    returns-3)

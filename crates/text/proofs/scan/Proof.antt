@@ -6,8 +6,6 @@ use native.Mathlib.Omega.{arith}
 use lib.Dec.{eqb}
 use lib.ListN.{length, getD, drop, drop-of-length-le}
 use borrow.Author.Needs.{needs}
-use Rattle.theory.specs.Model.Schedule.{none}
-use Rattle.text.specs.Words.{same}
 use Rattle.text.specs.Grammar.{fresh, textEnd}
 use Rattle.text.specs.Run.{placeAfter, begins, run, nameless}
 use Rattle.text.specs.Conditions.{namesAt}
@@ -59,13 +57,13 @@ loop-again c =
     let text = at-args .args .text .now in
     let l = at-loop .loop in
     let e = at-take-byte .take-byte in
-    let same : getD text (l .at) 0 ≡ getD text (l .at) 10 = getD-any text (l .at) 0 10 (omega arith) in (
+    let alike : getD text (l .at) 0 ≡ getD text (l .at) 10 = getD-any text (l .at) 0 10 (omega arith) in (
       omega arith,
       l .inv .1
           ∙ run-on (namesAt text (l .starts)) (l .p) (l .d) text (l .at) (omega arith) (e .result) (e .ensures) (omega (arith, at-if1 .if1))
           ∙ ap₂ (λ x y. run x y (e .result) (drop (l .at + 1) text))
-          (named-is text (l .starts) _ (l .p) (l .d) (getD text (l .at) 10) (l .at) (at-begins-word .begins-word .result) (at-begins-word .begins-word .ensures ∙ ap (begins (l .p)) same) (at-keep-name .keep-name .ensures))
-          (ap (placeAfter (l .p)) (sym same) ∙ sym (c .place-after .ensures)),
+          (named-is text (l .starts) _ (l .p) (l .d) (getD text (l .at) 10) (l .at) (at-begins-word .begins-word .result) (at-begins-word .begins-word .ensures ∙ ap (begins (l .p)) alike) (at-keep-name .keep-name .ensures))
+          (ap (placeAfter (l .p)) (sym alike) ∙ sym (c .place-after .ensures)),
       ap length (at-keep-name .keep-name .ensures) ∙ kept-length (at-begins-word .begins-word .result) (eqb (l .d .want) 7) (l .starts) (l .d .count) (l .at) ∙ l .inv .2,
     )
 
@@ -77,11 +75,15 @@ returns-2 c =
     let at-args = at-loop .before .before .before in
     let text = at-args .args .text .now in
     let l = at-loop .loop in
-    let none : drop (l .at) text ≡ [] = drop-of-length-le text {i = l .at} (omega arith) in (
-      l .inv .1 ∙ ap (run (namesAt text (l .starts)) (l .p) (l .d)) none
-          ∙ ap₂ (λ x y. record { draft = x; rest = y }) (sym (c .end-text .ensures ∙ ap textEnd (at-end-line .end-line .ensures))) (sym none),
+    let empty : drop (l .at) text ≡ [] = drop-of-length-le text {i = l .at} (omega arith) in (
+      l .inv .1 ∙ ap (run (namesAt text (l .starts)) (l .p) (l .d)) empty
+          ∙ ap₂ (λ x y. record { draft = x; rest = y }) (sym (c .end-text .ensures ∙ ap textEnd (at-end-line .end-line .ensures))) (sym empty),
       l .inv .0,
     )
 
 pub scan-spec : {M : Type 1} → statement M
-scan-spec = tie.close (tie.spec Inv-loop μ-loop (λ c κs. search needs) loop-holds (λ c. search needs) slice-aggregate-take-byte (λ c κs. search needs) returns slice-aggregate-keep-name (λ c κs. search needs) (λ c κs. search needs) (λ c κs. search needs) (λ c. search needs) (λ c. search needs) loop-again (λ c κs. search needs) (λ c κs. search needs) returns-2)
+scan-spec =
+    tie.close
+    (tie.spec Inv-loop μ-loop (λ c κs. search needs) loop-holds (λ c. search needs) slice-aggregate-take-byte (λ c κs. search needs)
+    returns slice-aggregate-keep-name (λ c κs. search needs) (λ c κs. search needs) (λ c κs. search needs) (λ c. search needs)
+    (λ c. search needs) loop-again (λ c κs. search needs) (λ c κs. search needs) returns-2)

@@ -5,7 +5,6 @@ use Prim.Native.Nat.{_+_, _-_, _≤_}
 use native.Mathlib.Omega.{arith}
 use lib.ListN.{length, drop, drop-of-length-le}
 use borrow.Author.Needs.{needs}
-use Rattle.theory.specs.Model.Schedule.{none}
 use Rattle.text.specs.Run.{lineAfter, columnAfter}
 use Rattle.text.specs.RunLaws.{line-on, column-on, line-none, column-none}
 use Rattle.text.proofs.spot_after.Statement.{statement}
@@ -53,8 +52,11 @@ returns c =
     let at-args = at-loop .before .before in
     let front = at-args .args .front .now in
     let l = at-loop .loop in
-    let none : drop (l .i) front ≡ [] = drop-of-length-le front {i = l .i} (omega arith) in
-    (sym (l .inv .4 ∙ line-none (drop (l .i) front) (l .line) none), sym (l .inv .5 ∙ column-none (drop (l .i) front) (l .column) none))
+    let empty : drop (l .i) front ≡ [] = drop-of-length-le front {i = l .i} (omega arith) in
+    (sym (l .inv .4 ∙ line-none (drop (l .i) front) (l .line) empty), sym (l .inv .5 ∙ column-none (drop (l .i) front) (l .column) empty))
 
 pub spot-after-spec : {M : Type 1} → statement M
-spot-after-spec = tie.close (tie.spec Inv-loop μ-loop loop-holds (λ c. search needs) next-line-requires next-column-requires (λ c. search needs) (λ c. search needs) loop-again returns)
+spot-after-spec =
+    tie.close
+    (tie.spec Inv-loop μ-loop loop-holds (λ c. search needs) next-line-requires next-column-requires (λ c. search needs)
+    (λ c. search needs) loop-again returns)

@@ -67,4 +67,7 @@ returns-3 c =
     sym (ap₂ (λ t u. done t u (lineEnd d) (step (says names (d .count) w) d) d) (ne-eqb b 10 (λ q. omega (arith, e))) (ap (begins (a .p)) (sym e) ∙ sym (at-begins-word .begins-word .ensures) ∙ c .if2 .left))
 
 pub take-byte-spec : {M : Type 1} → statement M
-take-byte-spec = tie.close (tie.spec (λ c κs. search needs) (λ c κs. search needs) returns (λ c κs. search needs) (λ c κs. search needs) (λ c κs. search needs) returns-2 returns-3)
+take-byte-spec =
+    tie.close
+    (tie.spec (λ c κs. search needs) (λ c κs. search needs) returns (λ c κs. search needs) (λ c κs. search needs)
+    (λ c κs. search needs) returns-2 returns-3)

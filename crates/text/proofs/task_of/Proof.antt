@@ -10,9 +10,9 @@ use Rattle.text.proofs.task_of.Tie as tie
 
 returns-2 : tie.Need-returns-2
 returns-2 c =
-    let at-args = c .before in
-    let d = at-args .args .t1 in
-    let long : length (d .tasks) ≡ 16 = sym (length-map (d .tasks) _) ∙ at-args .good .0 .1 .1 .0 .1 .0 .1 in
+    let at-good = c .before in
+    let d = at-good .args .t1 in
+    let long : length (d .tasks) ≡ 16 = sym (length-map (d .tasks) _) ∙ at-good .good .0 .1 .1 .0 .1 .0 .1 in
     sym (List·getD-eq-default (d .tasks) none (omega arith))
 
 pub task-of-spec : {M : Type 1} → statement M

@@ -21,4 +21,7 @@ returns-2 c =
     omega (arith, at-wide .wide .ensures, at-digit-of .digit-of .ensures)
 
 pub tenfold-of-spec : {M : Type 1} → statement M
-tenfold-of-spec = tie.close (tie.spec (λ c κs. search needs) (λ c. search needs) (λ c κs. search needs) (λ c. search needs) (λ c. search needs) returns returns-2)
+tenfold-of-spec =
+    tie.close
+    (tie.spec (λ c κs. search needs) (λ c. search needs) (λ c κs. search needs) (λ c. search needs) (λ c. search needs) returns
+    returns-2)

@@ -6,7 +6,6 @@ use native.Mathlib.Omega.{arith}
 use lib.ListN.{drop}
 use borrow.Author.Tests.{lt-ltb, le-ltb}
 use borrow.Author.Needs.{needs}
-use Rattle.io.specs.Digits.{digits}
 use Rattle.theory.specs.Model.Schedule.{none}
 use Rattle.text.specs.declared.Word.{Word}
 use Rattle.text.specs.Words.{word, every, digit, nameByte, number, index, keyword, saying, nameSays, says}
@@ -16,7 +15,7 @@ use Rattle.text.proofs.word_at.Tie as tie
 
 -- what a word says, by the tests on it
 abbrev told : Bool → Bool → Bool → ℕ → ℕ → Word → Word
-told key digits name k v known = cond key (saying k 0) (cond digits (saying 8 v) (cond name known (saying 0 0)))
+told isKey isNumber isName k v known = cond isKey (saying k 0) (cond isNumber (saying 8 v) (cond isName known (saying 0 0)))
 
 returns : tie.Need-returns
 unfolding says
@@ -82,4 +81,7 @@ returns-4 c =
     ∙ ap (λ t. told false false t (keyword w) (number 0 w) (nameSays (index names (a .count) w))) (sym (at-all-in-name .all-in-name .ensures) ∙ c .if3 .left))
 
 pub word-at-spec : {M : Type 1} → statement M
-word-at-spec = tie.close (tie.spec (λ c κs. search needs) returns (λ c κs. search needs) (λ c κs. search needs) returns-2 (λ c κs. search needs) (λ c κs. search needs) (λ c κs. search needs) returns-3 returns-4)
+word-at-spec =
+    tie.close
+    (tie.spec (λ c κs. search needs) returns (λ c κs. search needs) (λ c κs. search needs) returns-2 (λ c κs. search needs)
+    (λ c κs. search needs) (λ c κs. search needs) returns-3 returns-4)

@@ -9,4 +9,6 @@ unfolding wordWrong
 returns c = cc
 
 pub word-wrong-spec : {M : Type 1} → statement M
-word-wrong-spec = tie.close (tie.spec (λ c κs. search needs) (λ c κs. search needs) (λ c κs. search needs) (λ c κs. search needs) returns)
+word-wrong-spec =
+    tie.close
+    (tie.spec (λ c κs. search needs) (λ c κs. search needs) (λ c κs. search needs) (λ c κs. search needs) returns)

@@ -1,5 +1,5 @@
 -- A text read word by word: what is wanted next, and what each word adds to the sheet. What is not wanted, or not allowed, is wrong: a mistake
--- by what was wanted (1 to 18) or by its own number (19 to 24), a refusal by its number and 100.
+-- by what was wanted or by a number of its own, a refusal by its number and 100.
 use mathlib.Core.Bool.{cond}
 use mathlib.Core.List.{List, [], _∷_}
 use Prim.Native.Nat.{ℕ, _+_, min}
@@ -13,12 +13,93 @@ use Rattle.sheet.specs.Fields.{idle, outside, among}
 use Rattle.sheet.specs.Calls.{places, unused}
 use Rattle.text.specs.declared.Word.{Word}
 use Rattle.text.specs.declared.Draft.{Draft}
+use Rattle.text.specs.Words.{editionKey, taskKey, periodKey, budgetKey, rankKey, chainKey, limitKey, aNumber, knownName, newName}
+
+-- ---- what is wanted, and what is wrong
+
+-- What is wanted next, and so the number of the mistake where it is not there.
+abbrev pub wantOpening : ℕ
+wantOpening = 1
+
+abbrev pub wantTask : ℕ
+wantTask = 2
+
+abbrev pub wantMore : ℕ
+wantMore = 3
+
+abbrev pub wantChain : ℕ
+wantChain = 4
+
+abbrev pub wantEdition : ℕ
+wantEdition = 5
+
+abbrev pub wantEditionEnd : ℕ
+wantEditionEnd = 6
+
+abbrev pub wantName : ℕ
+wantName = 7
+
+abbrev pub wantPeriod : ℕ
+wantPeriod = 8
+
+abbrev pub wantPeriodNumber : ℕ
+wantPeriodNumber = 9
+
+abbrev pub wantBudget : ℕ
+wantBudget = 10
+
+abbrev pub wantBudgetNumber : ℕ
+wantBudgetNumber = 11
+
+abbrev pub wantRank : ℕ
+wantRank = 12
+
+abbrev pub wantRankNumber : ℕ
+wantRankNumber = 13
+
+abbrev pub wantTaskEnd : ℕ
+wantTaskEnd = 14
+
+abbrev pub wantLimit : ℕ
+wantLimit = 15
+
+abbrev pub wantLimitNumber : ℕ
+wantLimitNumber = 16
+
+abbrev pub wantEntry : ℕ
+wantEntry = 17
+
+abbrev pub wantEntries : ℕ
+wantEntries = 18
+
+-- The mistakes that have a number of their own.
+abbrev pub nameTwice : ℕ
+nameTwice = 19
+
+abbrev pub nameUnknown : ℕ
+nameUnknown = 20
+
+abbrev pub rankTooGreat : ℕ
+rankTooGreat = 21
+
+abbrev pub limitInEditionOne : ℕ
+limitInEditionOne = 22
+
+abbrev pub chainInEditionOne : ℕ
+chainInEditionOne = 23
+
+abbrev pub tooLong : ℕ
+tooLong = 24
+
+-- A refusal, by the documents' number.
+abbrev pub refusedWith : ℕ → ℕ
+refusedWith number = 100 + number
 
 -- ---- a sheet that is being typed
 
 -- Nothing typed; the edition is not said.
 unfoldable pub fresh : Draft
-fresh = record { tasks = places 16 none 0 (λ i. none); chains = places 8 unused 0 (λ c. unused); edition = 0; count = 0; suite = 0; want = 1; wrong = 0 }
+fresh = record { tasks = places 16 none 0 (λ i. none); chains = places 8 unused 0 (λ c. unused); edition = 0; count = 0; suite = 0; want = wantOpening; wrong = 0 }
 
 abbrev pub wanting : ℕ → Draft → Draft
 wanting want d = record { tasks = d .tasks; chains = d .chains; edition = d .edition; count = d .count; suite = d .suite; want = want; wrong = d .wrong }
@@ -64,7 +145,7 @@ unless wrong e d = cond (eqb wrong 0) e (failing wrong d)
 
 -- A number within limits.
 abbrev pub ranged : Word → ℕ → ℕ → ℕ → ℕ → ℕ
-ranged w low high refusal want = cond (eqb (w .class) 8) (cond (outside low high (w .value)) refusal 0) want
+ranged w low high refusal want = cond (eqb (w .class) aNumber) (cond (outside low high (w .value)) refusal 0) want
 
 abbrev pub orElse : ℕ → ℕ → ℕ
 orElse first second = cond (eqb first 0) second first
@@ -75,88 +156,87 @@ low x = cond (ltb x 256) x 0
 
 -- ---- the words in the order of the text
 
--- 1: `edition` or `task`
+-- `edition` or `task`
 unfoldable pub atOpening : Word → Draft → Draft
-atOpening w d = cond (eqb (w .class) 1) (wanting 5 d) (cond (eqb (w .class) 2) (wanting 7 d) (missing d))
+atOpening w d = cond (eqb (w .class) editionKey) (wanting wantEdition d) (cond (eqb (w .class) taskKey) (wanting wantName d) (missing d))
 
 -- A chain with no limit is under 1,000, the limit that an old sheet's chain has.
 unfoldable pub opened : Draft → Draft
-opened d = wanting 15 (withChain (record { entries = unused .entries; length = 0; limit = 1000 }) d)
+opened d = wanting wantLimit (withChain (record { entries = unused .entries; length = 0; limit = 1000 }) d)
 
--- 3: `task` or `chain`
+-- `task` or `chain`
 unfoldable pub atMore : Word → Draft → Draft
-atMore w d = cond (eqb (w .class) 2) (cond (ltb (d .count) 16) (wanting 7 d) (failing 102 d)) (cond (eqb (w .class) 6) (opened d) (missing d))
+atMore w d = cond (eqb (w .class) taskKey) (cond (ltb (d .count) 16) (wanting wantName d) (failing (refusedWith 2) d)) (cond (eqb (w .class) chainKey) (opened d) (missing d))
 
--- 4: `chain`; "more than one chain" is edition 2
+-- `chain`; "more than one chain" is edition 2
 unfoldable pub atChains : Word → Draft → Draft
 atChains w d =
-    cond (eqb (w .class) 6) (cond (eqb (d .edition) 1) (failing 23 d) (cond (ltb (d .suite) 8) (opened (withEdition 2 d)) (failing 117 d))) (missing d)
+    cond (eqb (w .class) chainKey) (cond (eqb (d .edition) 1) (failing chainInEditionOne d) (cond (ltb (d .suite) 8) (opened (withEdition 2 d)) (failing (refusedWith 17) d))) (missing d)
 
--- 5: the edition
+-- the edition
 unfoldable pub atEdition : Word → Draft → Draft
-atEdition w d = unless (ranged w 1 2 116 (d .want)) (wanting 6 (withEdition (low (w .value)) d)) d
+atEdition w d = unless (ranged w 1 2 (refusedWith 16) (d .want)) (wanting wantEditionEnd (withEdition (low (w .value)) d)) d
 
--- 7: a name, "given once"
+-- a name, "given once"
 unfoldable pub atName : Word → Draft → Draft
-atName w d = cond (eqb (w .class) 10) (wanting 8 d) (cond (eqb (w .class) 9) (failing 19 d) (missing d))
+atName w d = cond (eqb (w .class) newName) (wanting wantPeriod d) (cond (eqb (w .class) knownName) (failing nameTwice d) (missing d))
 
--- 2, 8, 10, 12: `task`, `period`, `budget`, `rank`
+-- `task`, `period`, `budget`, `rank`
 unfoldable pub atKey : ℕ → ℕ → Word → Draft → Draft
 atKey class next w d = cond (eqb (w .class) class) (wanting next d) (missing d)
 
--- 9, 11, 13: their numbers
+-- their numbers
 unfoldable pub atPeriod : Word → Draft → Draft
-atPeriod w d = unless (ranged w 1 100000 103 (d .want)) (wanting 10 (withTask (record { period = w .value; budget = 0; rank = 0 }) d)) d
+atPeriod w d = unless (ranged w 1 100000 (refusedWith 3) (d .want)) (wanting wantBudget (withTask (record { period = w .value; budget = 0; rank = 0 }) d)) d
 
 unfoldable pub atBudget : Word → Draft → Draft
 atBudget w d =
     let t = taskIn d in
-    unless (ranged w 1 (t .period) 104 (d .want)) (wanting 12 (withTask (record { period = t .period; budget = w .value; rank = 0 }) d)) d
+    unless (ranged w 1 (t .period) (refusedWith 4) (d .want)) (wanting wantRank (withTask (record { period = t .period; budget = w .value; rank = 0 }) d)) d
 
 -- an earlier task has this rank
 unfoldable pub ranked : Draft → ℕ → ℕ
-ranked d rank = cond (among (λ j. getD (d .tasks) j none .rank) (d .count) rank) 105 0
+ranked d rank = cond (among (λ j. getD (d .tasks) j none .rank) (d .count) rank) (refusedWith 5) 0
 
 unfoldable pub atRank : Word → Draft → Draft
 atRank w d =
     let t = taskIn d in
-    unless (orElse (ranged w 0 255 21 (d .want)) (ranked d (low (w .value))))
-    (wanting 14 (taskMore (withTask (record { period = t .period; budget = t .budget; rank = low (w .value) }) d))) d
+    unless (orElse (ranged w 0 255 rankTooGreat (d .want)) (ranked d (low (w .value))))
+    (wanting wantTaskEnd (taskMore (withTask (record { period = t .period; budget = t .budget; rank = low (w .value) }) d))) d
 
--- 17, 18: a task of the chain, by its name or its number
--- one of the first k entries is this one
+-- a task of the chain, by its name or its number: one of the first k entries may not be it
 unfoldable pub repeated : List ℕ → ℕ → ℕ → ℕ
-repeated entries k e = cond (among (λ j. getD entries j 0) k e) 108 0
+repeated entries k e = cond (among (λ j. getD entries j 0) k e) (refusedWith 8) 0
 
 unfoldable pub entryWrong : ℕ → Chain → ℕ → ℕ
-entryWrong count c e = cond (leb count (c .length)) 106 (cond (leb count e) 107 (repeated (c .entries) (c .length) (low e)))
+entryWrong count c e = cond (leb count (c .length)) (refusedWith 6) (cond (leb count e) (refusedWith 7) (repeated (c .entries) (c .length) (low e)))
 
 unfoldable pub wordWrong : Word → Draft → Chain → ℕ
 wordWrong w d c =
-    cond (eqb (w .class) 10) 20
-    (cond (eqb (w .class) 9) (entryWrong (d .count) c (w .value)) (cond (eqb (w .class) 8) (entryWrong (d .count) c (w .value)) (d .want)))
+    cond (eqb (w .class) newName) nameUnknown
+    (cond (eqb (w .class) knownName) (entryWrong (d .count) c (w .value)) (cond (eqb (w .class) aNumber) (entryWrong (d .count) c (w .value)) (d .want)))
 
 unfoldable pub atEntry : Word → Draft → Draft
 atEntry w d =
     let c = chainIn d in
     unless (wordWrong w d c)
-    (wanting 18 (withChain (record { entries = set (c .entries) (c .length) (low (w .value)); length = more (c .length) 16; limit = c .limit }) d)) d
+    (wanting wantEntries (withChain (record { entries = set (c .entries) (c .length) (low (w .value)); length = more (c .length) 16; limit = c .limit }) d)) d
 
--- 15: "With a limit .. the sheet is of edition 2", or a task
+-- "With a limit .. the sheet is of edition 2", or a task
 unfoldable pub atLimit : Word → Draft → Draft
-atLimit w d = cond (eqb (w .class) 7) (cond (eqb (d .edition) 1) (failing 22 d) (wanting 16 (withEdition 2 d))) (atEntry w d)
+atLimit w d = cond (eqb (w .class) limitKey) (cond (eqb (d .edition) 1) (failing limitInEditionOne d) (wanting wantLimitNumber (withEdition 2 d))) (atEntry w d)
 
--- 16: the limit
+-- the limit
 unfoldable pub atLimitNumber : Word → Draft → Draft
 atLimitNumber w d =
     let c = chainIn d in
-    unless (ranged w 0 4000000 113 (d .want)) (wanting 17 (withChain (record { entries = c .entries; length = c .length; limit = w .value }) d)) d
+    unless (ranged w 0 4000000 (refusedWith 13) (d .want)) (wanting wantEntry (withChain (record { entries = c .entries; length = c .length; limit = w .value }) d)) d
 
--- What a word does where each is wanted; at 6 and 14 the end of the line is.
+-- What a word does where each thing is wanted, by its number; after the edition and after the rank the end of the line is.
 unfoldable pub table : Word → Draft → List Draft
 table w d =
-    missing d ∷ atOpening w d ∷ atKey 2 7 w d ∷ atMore w d ∷ atChains w d ∷ atEdition w d ∷ missing d ∷ atName w d ∷ atKey 3 9 w d ∷ atPeriod w d
-    ∷ atKey 4 11 w d ∷ atBudget w d ∷ atKey 5 13 w d ∷ atRank w d ∷ missing d ∷ atLimit w d ∷ atLimitNumber w d ∷ atEntry w d ∷ atEntry w d ∷ []
+    missing d ∷ atOpening w d ∷ atKey taskKey wantName w d ∷ atMore w d ∷ atChains w d ∷ atEdition w d ∷ missing d ∷ atName w d ∷ atKey periodKey wantPeriodNumber w d ∷ atPeriod w d
+    ∷ atKey budgetKey wantBudgetNumber w d ∷ atBudget w d ∷ atKey rankKey wantRankNumber w d ∷ atRank w d ∷ missing d ∷ atLimit w d ∷ atLimitNumber w d ∷ atEntry w d ∷ atEntry w d ∷ []
 
 unfoldable pub step : Word → Draft → Draft
 step w d = getD (table w d) (d .want) (missing d)
@@ -164,12 +244,12 @@ step w d = getD (table w d) (d .want) (missing d)
 -- The end of a line: before a line it does not matter; after one it ends it.
 unfoldable pub lineEnd : Draft → Draft
 lineEnd d =
-    cond (ltb (d .want) 5) d
-    (cond (eqb (d .want) 6) (wanting 2 d) (cond (eqb (d .want) 14) (wanting 3 d) (cond (eqb (d .want) 18) (wanting 4 (chainMore d)) (missing d))))
+    cond (ltb (d .want) wantEdition) d
+    (cond (eqb (d .want) wantEditionEnd) (wanting wantTask d) (cond (eqb (d .want) wantTaskEnd) (wanting wantMore d) (cond (eqb (d .want) wantEntries) (wanting wantChain (chainMore d)) (missing d))))
 
 -- At the end of the text there is a chain.
 unfoldable pub textEnd : Draft → Draft
-textEnd d = cond (eqb (d .wrong) 0) (cond (eqb (d .want) 4) d (missing d)) d
+textEnd d = cond (eqb (d .wrong) 0) (cond (eqb (d .want) wantChain) d (missing d)) d
 
 -- ---- the sheet that was typed
 

@@ -8,7 +8,7 @@ use Rattle.sheet.specs.Answers.{blank}
 use Rattle.text.specs.declared.Draft.{Draft}
 use Rattle.text.specs.declared.Parsed.{Parsed}
 use Rattle.text.specs.Words.{ends, word, says}
-use Rattle.text.specs.Grammar.{fresh, step, lineEnd, textEnd, typed}
+use Rattle.text.specs.Grammar.{wantName, tooLong, fresh, step, lineEnd, textEnd, typed}
 
 -- Between words is 0, in a word 1, in a comment 2.
 unfoldable pub placeAfter : ℕ → ℕ → ℕ
@@ -24,7 +24,7 @@ turn names p d b w = cond (eqb b 10) (lineEnd d) (cond (begins p b) (step (says 
 
 -- The names that tasks have: that of the task being read too, where a name is wanted.
 unfoldable pub named : List (List ℕ) → ℕ → Draft → ℕ → List ℕ → List (List ℕ)
-named names p d b w = cond (begins p b) (cond (eqb (d .want) 7) (set names (d .count) w) names) names
+named names p d b w = cond (begins p b) (cond (eqb (d .want) wantName) (set names (d .count) w) names) names
 
 -- Where the reading ended: what was typed, and what is left from there on.
 pub record Ending : Type 0 where
@@ -61,4 +61,4 @@ settled text e =
 
 -- "texts over 16 KiB are refused as too long"
 unfoldable pub parseOf : List ℕ → Parsed
-parseOf text = cond (ltb 16384 (length text)) (faulty 24 (take 16384 text)) (settled text (run nameless 0 fresh text))
+parseOf text = cond (ltb 16384 (length text)) (faulty tooLong (take 16384 text)) (settled text (run nameless 0 fresh text))

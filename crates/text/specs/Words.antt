@@ -57,21 +57,54 @@ index names (suc i) w = cond (same (getD names i []) w) i (index names i w)
 abbrev pub editionWord : List ℕ
 editionWord = 101 ∷ 100 ∷ 105 ∷ 116 ∷ 105 ∷ 111 ∷ 110 ∷ []
 
--- Keywords 1 to 7, or 0.
+-- What a word is: a keyword, a number, the name of a task, a new name, or none of these.
+abbrev pub other : ℕ
+other = 0
+
+abbrev pub editionKey : ℕ
+editionKey = 1
+
+abbrev pub taskKey : ℕ
+taskKey = 2
+
+abbrev pub periodKey : ℕ
+periodKey = 3
+
+abbrev pub budgetKey : ℕ
+budgetKey = 4
+
+abbrev pub rankKey : ℕ
+rankKey = 5
+
+abbrev pub chainKey : ℕ
+chainKey = 6
+
+abbrev pub limitKey : ℕ
+limitKey = 7
+
+abbrev pub aNumber : ℕ
+aNumber = 8
+
+abbrev pub knownName : ℕ
+knownName = 9
+
+abbrev pub newName : ℕ
+newName = 10
+
 unfoldable pub keyword : List ℕ → ℕ
 keyword w =
-    cond (same w editionWord) 1 (cond (same w taskWord) 2 (cond (same w periodWord) 3 (cond (same w budgetWord) 4
-    (cond (same w rankWord) 5 (cond (same w chainWord) 6 (cond (same w limitWord) 7 0))))))
+    cond (same w editionWord) editionKey (cond (same w taskWord) taskKey (cond (same w periodWord) periodKey (cond (same w budgetWord) budgetKey
+    (cond (same w rankWord) rankKey (cond (same w chainWord) chainKey (cond (same w limitWord) limitKey other))))))
 
 abbrev pub saying : ℕ → ℕ → Word
 saying class value = record { class = class; value = value }
 
--- A number is 8 with its value; a name that a task has is 9 with that task, a new one is 10.
+-- A number comes with its value, a name that a task has with that task.
 unfoldable pub nameSays : ℕ → Word
-nameSays i = cond (eqb i 255) (saying 10 0) (saying 9 i)
+nameSays i = cond (eqb i 255) (saying newName 0) (saying knownName i)
 
 unfoldable pub says : List (List ℕ) → ℕ → List ℕ → Word
 says names count w =
-    cond (ltb 0 (keyword w)) (saying (keyword w) 0)
-    (cond (every digit w) (saying 8 (number 0 w))
-    (cond (every nameByte w) (nameSays (index names count w)) (saying 0 0)))
+    cond (ltb other (keyword w)) (saying (keyword w) 0)
+    (cond (every digit w) (saying aNumber (number 0 w))
+    (cond (every nameByte w) (nameSays (index names count w)) (saying other 0)))

@@ -206,8 +206,7 @@ pub fn show(s: Sheet, out: &mut [u8]) -> Written
 
 // ---- a text read
 
-// A word of a text: a keyword (1 to 7), a number (8), the name of a task (9) or a new name (10), or none of these (0); and the number, or the
-// task.
+// A word of a text: what it is, and the number, or the task that has the name.
 struct Word {
     class: u8,
     value: u32,
@@ -243,6 +242,103 @@ pub struct Parsed {
     pub column: u32,
     pub sheet: Sheet,
 }
+
+// What a word is: a keyword, a number, the name of a task, a new name, or none of these.
+const OTHER: u8 = 0;
+
+const EDITION: u8 = 1;
+
+const TASK: u8 = 2;
+
+const PERIOD: u8 = 3;
+
+const BUDGET: u8 = 4;
+
+const RANK: u8 = 5;
+
+const CHAIN: u8 = 6;
+
+const LIMIT: u8 = 7;
+
+const NUMBER: u8 = 8;
+
+const KNOWN_NAME: u8 = 9;
+
+const NEW_NAME: u8 = 10;
+
+// What is wanted next, and so the number of the mistake where it is not there.
+const WANT_OPENING: u8 = 1;
+
+const WANT_TASK: u8 = 2;
+
+const WANT_MORE: u8 = 3;
+
+const WANT_CHAIN: u8 = 4;
+
+const WANT_EDITION: u8 = 5;
+
+const WANT_EDITION_END: u8 = 6;
+
+const WANT_NAME: u8 = 7;
+
+const WANT_PERIOD: u8 = 8;
+
+const WANT_PERIOD_NUMBER: u8 = 9;
+
+const WANT_BUDGET: u8 = 10;
+
+const WANT_BUDGET_NUMBER: u8 = 11;
+
+const WANT_RANK: u8 = 12;
+
+const WANT_RANK_NUMBER: u8 = 13;
+
+const WANT_TASK_END: u8 = 14;
+
+const WANT_LIMIT: u8 = 15;
+
+const WANT_LIMIT_NUMBER: u8 = 16;
+
+const WANT_ENTRY: u8 = 17;
+
+const WANT_ENTRIES: u8 = 18;
+
+// The mistakes that have a number of their own.
+const NAME_TWICE: u8 = 19;
+
+const NAME_UNKNOWN: u8 = 20;
+
+const RANK_TOO_GREAT: u8 = 21;
+
+const LIMIT_IN_EDITION_ONE: u8 = 22;
+
+const CHAIN_IN_EDITION_ONE: u8 = 23;
+
+const TOO_LONG: u8 = 24;
+
+// The refusals: their number and 100.
+const TASKS_REFUSED: u8 = 102;
+
+const PERIOD_REFUSED: u8 = 103;
+
+const BUDGET_REFUSED: u8 = 104;
+
+const RANK_REFUSED: u8 = 105;
+
+const LENGTH_REFUSED: u8 = 106;
+
+const ENTRY_REFUSED: u8 = 107;
+
+const REPEAT_REFUSED: u8 = 108;
+
+const LIMIT_REFUSED: u8 = 113;
+
+const EDITION_REFUSED: u8 = 116;
+
+const CHAINS_REFUSED: u8 = 117;
+
+// The limit that an old sheet's chain has.
+const OLD_LIMIT: u32 = 1000;
 
 const SIZE: usize = 16384;
 
@@ -424,13 +520,13 @@ fn keyword_or<'a>(text: &'a [u8], at: usize, key: &'a [u8], class: u8, other: u8
 fn keyword_at(text: &[u8], at: usize) -> u8
     ensures { λ r. ⌜ r ≡ keyword (word (drop at (now (text .entry)))) ⌝ }
 {
-    let limit = keyword_or(text, at, b"limit", 7, 0);
-    let chain = keyword_or(text, at, b"chain", 6, limit);
-    let rank = keyword_or(text, at, b"rank", 5, chain);
-    let budget = keyword_or(text, at, b"budget", 4, rank);
-    let period = keyword_or(text, at, b"period", 3, budget);
-    let task = keyword_or(text, at, b"task", 2, period);
-    keyword_or(text, at, b"edition", 1, task)
+    let limit = keyword_or(text, at, b"limit", LIMIT, OTHER);
+    let chain = keyword_or(text, at, b"chain", CHAIN, limit);
+    let rank = keyword_or(text, at, b"rank", RANK, chain);
+    let budget = keyword_or(text, at, b"budget", BUDGET, rank);
+    let period = keyword_or(text, at, b"period", PERIOD, budget);
+    let task = keyword_or(text, at, b"task", TASK, period);
+    keyword_or(text, at, b"edition", EDITION, task)
 }
 
 // Where the name of task j begins; past the places, the end of the text.
@@ -463,19 +559,22 @@ fn name_says(i: u8) -> Word
 {
     if i == 255 {
         return Word {
-            class: 10,
+            class: NEW_NAME,
             value: 0,
         };
     }
     let value = short(i);
-    Word { class: 9, value }
+    Word {
+        class: KNOWN_NAME,
+        value,
+    }
 }
 
 fn word_at(text: &[u8], starts: &[usize], count: u8, at: usize) -> Word
     ensures { λ r. ⌜ r ≡ says (namesAt (now (text .entry)) (now (starts .entry))) count (word (drop at (now (text .entry)))) ⌝ }
 {
     let key = keyword_at(text, at);
-    if 0 < key {
+    if OTHER < key {
         return Word {
             class: key,
             value: 0,
@@ -483,12 +582,18 @@ fn word_at(text: &[u8], starts: &[usize], count: u8, at: usize) -> Word
     }
     if all_digits(text, at) {
         let value = number_at(text, at);
-        return Word { class: 8, value };
+        return Word {
+            class: NUMBER,
+            value,
+        };
     }
     if all_in_name(text, at) {
         return name_says(index_of(text, starts, count, at));
     }
-    Word { class: 0, value: 0 }
+    Word {
+        class: OTHER,
+        value: 0,
+    }
 }
 
 // ---- the draft
@@ -592,7 +697,7 @@ fn range_wrong(w: Word, low: u32, high: u32, refusal: u8, want: u8) -> u8
     ensures { λ r. ⌜ r ≡ ranged w low high refusal want ⌝ }
 {
     let outside = either(w.value < low, high < w.value);
-    choose_number(w.class == 8, choose_number(outside, refusal, 0), want)
+    choose_number(w.class == NUMBER, choose_number(outside, refusal, 0), want)
 }
 
 fn low_of(x: u32) -> u8
@@ -610,9 +715,9 @@ fn read_opening(w: Word, d: Draft) -> Draft
     ensures { λ r. ⌜ r ≡ atOpening w d ⌝ }
 {
     choose(
-        w.class == 1,
-        wants(d, 5),
-        choose(w.class == 2, wants(d, 7), fails(d, d.want)),
+        w.class == EDITION,
+        wants(d, WANT_EDITION),
+        choose(w.class == TASK, wants(d, WANT_NAME), fails(d, d.want)),
     )
 }
 
@@ -628,29 +733,33 @@ fn begin_chain(d: Draft) -> Draft
     let c = Chain {
         entries: [0u8; 16],
         length: 0,
-        limit: 1000,
+        limit: OLD_LIMIT,
     };
-    wants(puts_chain(d, c), 15)
+    wants(puts_chain(d, c), WANT_LIMIT)
 }
 
 fn read_more(w: Word, d: Draft) -> Draft
     ensures { λ r. ⌜ r ≡ atMore w d ⌝ }
 {
-    let task = choose(d.count < 16, wants(d, 7), fails(d, 102));
+    let task = choose(d.count < 16, wants(d, WANT_NAME), fails(d, TASKS_REFUSED));
     choose(
-        w.class == 2,
+        w.class == TASK,
         task,
-        choose(w.class == 6, begin_chain(d), fails(d, d.want)),
+        choose(w.class == CHAIN, begin_chain(d), fails(d, d.want)),
     )
 }
 
 fn read_chains(w: Word, d: Draft) -> Draft
     ensures { λ r. ⌜ r ≡ atChains w d ⌝ }
 {
-    let next = choose(d.suite < 8, begin_chain(says_edition(d, 2)), fails(d, 117));
+    let next = choose(
+        d.suite < 8,
+        begin_chain(says_edition(d, 2)),
+        fails(d, CHAINS_REFUSED),
+    );
     choose(
-        w.class == 6,
-        choose(d.edition == 1, fails(d, 23), next),
+        w.class == CHAIN,
+        choose(d.edition == 1, fails(d, CHAIN_IN_EDITION_ONE), next),
         fails(d, d.want),
     )
 }
@@ -658,17 +767,21 @@ fn read_chains(w: Word, d: Draft) -> Draft
 fn read_edition(w: Word, d: Draft) -> Draft
     ensures { λ r. ⌜ r ≡ atEdition w d ⌝ }
 {
-    let e = wants(says_edition(d, low_of(w.value)), 6);
-    settle(range_wrong(w, 1, 2, 116, d.want), e, d)
+    let e = wants(says_edition(d, low_of(w.value)), WANT_EDITION_END);
+    settle(range_wrong(w, 1, 2, EDITION_REFUSED, d.want), e, d)
 }
 
 fn read_name(w: Word, d: Draft) -> Draft
     ensures { λ r. ⌜ r ≡ atName w d ⌝ }
 {
     choose(
-        w.class == 10,
-        wants(d, 8),
-        choose(w.class == 9, fails(d, 19), fails(d, d.want)),
+        w.class == NEW_NAME,
+        wants(d, WANT_PERIOD),
+        choose(
+            w.class == KNOWN_NAME,
+            fails(d, NAME_TWICE),
+            fails(d, d.want),
+        ),
     )
 }
 
@@ -680,8 +793,8 @@ fn read_period(w: Word, d: Draft) -> Draft
         budget: 0,
         rank: 0,
     };
-    let e = wants(puts_task(d, t), 10);
-    settle(range_wrong(w, 1, 100000, 103, d.want), e, d)
+    let e = wants(puts_task(d, t), WANT_BUDGET);
+    settle(range_wrong(w, 1, 100000, PERIOD_REFUSED, d.want), e, d)
 }
 
 fn read_budget(w: Word, d: Draft) -> Draft
@@ -693,8 +806,8 @@ fn read_budget(w: Word, d: Draft) -> Draft
         budget: w.value,
         rank: 0,
     };
-    let e = wants(puts_task(d, t), 12);
-    settle(range_wrong(w, 1, old.period, 104, d.want), e, d)
+    let e = wants(puts_task(d, t), WANT_RANK);
+    settle(range_wrong(w, 1, old.period, BUDGET_REFUSED, d.want), e, d)
 }
 
 fn rank_of(d: Draft, j: u8) -> u8
@@ -707,7 +820,7 @@ fn rank_of(d: Draft, j: u8) -> u8
     0
 }
 
-// 105 for a rank that an earlier task has.
+// Whether an earlier task has the rank.
 fn rank_wrong(d: Draft, rank: u8) -> u8
     ensures { λ r. ⌜ r ≡ ranked d rank ⌝ }
 {
@@ -715,7 +828,7 @@ fn rank_wrong(d: Draft, rank: u8) -> u8
     while 0 < j {
         j -= 1;
         if rank_of(d, j) == rank {
-            return 105;
+            return RANK_REFUSED;
         }
     }
     0
@@ -739,8 +852,8 @@ fn read_rank(w: Word, d: Draft) -> Draft
         budget: old.budget,
         rank,
     };
-    let e = wants(count_task(puts_task(d, t)), 14);
-    let first = range_wrong(w, 0, 255, 21, d.want);
+    let e = wants(count_task(puts_task(d, t)), WANT_TASK_END);
+    let first = range_wrong(w, 0, 255, RANK_TOO_GREAT, d.want);
     settle(choose_number(first == 0, rank_wrong(d, rank), first), e, d)
 }
 
@@ -768,7 +881,7 @@ fn nth_of(values: &[u8], i: u8) -> u8
     0
 }
 
-// 108 for an entry that stands in the first k places.
+// Whether the entry stands in the first k places.
 fn repeat_wrong(values: &[u8], k: u8, entry: u8) -> u8
     ensures { λ r. ⌜ r ≡ repeated (now (values .entry)) k entry ⌝ }
 {
@@ -776,7 +889,7 @@ fn repeat_wrong(values: &[u8], k: u8, entry: u8) -> u8
     while 0 < j {
         j -= 1;
         if nth_of(values, j) == entry {
-            return 108;
+            return REPEAT_REFUSED;
         }
     }
     0
@@ -789,8 +902,8 @@ fn entry_wrong(count: u8, c: Chain, value: u32) -> u8
     let repeat = repeat_wrong(&own, c.length, low_of(value));
     choose_number(
         count <= c.length,
-        106,
-        choose_number(short(count) <= value, 107, repeat),
+        LENGTH_REFUSED,
+        choose_number(short(count) <= value, ENTRY_REFUSED, repeat),
     )
 }
 
@@ -799,12 +912,12 @@ fn word_wrong(w: Word, d: Draft, c: Chain) -> u8
 {
     let entry = entry_wrong(d.count, c, w.value);
     choose_number(
-        w.class == 10,
-        20,
+        w.class == NEW_NAME,
+        NAME_UNKNOWN,
         choose_number(
-            w.class == 9,
+            w.class == KNOWN_NAME,
             entry,
-            choose_number(w.class == 8, entry, d.want),
+            choose_number(w.class == NUMBER, entry, d.want),
         ),
     )
 }
@@ -821,14 +934,22 @@ fn read_entry(w: Word, d: Draft) -> Draft
         length,
         limit: c.limit,
     };
-    settle(word_wrong(w, d, c), wants(puts_chain(d, longer), 18), d)
+    settle(
+        word_wrong(w, d, c),
+        wants(puts_chain(d, longer), WANT_ENTRIES),
+        d,
+    )
 }
 
 fn read_limit(w: Word, d: Draft) -> Draft
     ensures { λ r. ⌜ r ≡ atLimit w d ⌝ }
 {
-    let limit = choose(d.edition == 1, fails(d, 22), wants(says_edition(d, 2), 16));
-    choose(w.class == 7, limit, read_entry(w, d))
+    let limit = choose(
+        d.edition == 1,
+        fails(d, LIMIT_IN_EDITION_ONE),
+        wants(says_edition(d, 2), WANT_LIMIT_NUMBER),
+    );
+    choose(w.class == LIMIT, limit, read_entry(w, d))
 }
 
 fn read_limit_number(w: Word, d: Draft) -> Draft
@@ -842,8 +963,8 @@ fn read_limit_number(w: Word, d: Draft) -> Draft
         limit: w.value,
     };
     settle(
-        range_wrong(w, 0, 4000000, 113, d.want),
-        wants(puts_chain(d, under), 17),
+        range_wrong(w, 0, 4000000, LIMIT_REFUSED, d.want),
+        wants(puts_chain(d, under), WANT_ENTRY),
         d,
     )
 }
@@ -854,16 +975,16 @@ fn read_word(w: Word, d: Draft) -> Draft
     let want = d.want;
     match want {
         1 => read_opening(w, d),
-        2 => read_key(2, 7, w, d),
+        2 => read_key(TASK, WANT_NAME, w, d),
         3 => read_more(w, d),
         4 => read_chains(w, d),
         5 => read_edition(w, d),
         7 => read_name(w, d),
-        8 => read_key(3, 9, w, d),
+        8 => read_key(PERIOD, WANT_PERIOD_NUMBER, w, d),
         9 => read_period(w, d),
-        10 => read_key(4, 11, w, d),
+        10 => read_key(BUDGET, WANT_BUDGET_NUMBER, w, d),
         11 => read_budget(w, d),
-        12 => read_key(5, 13, w, d),
+        12 => read_key(RANK, WANT_RANK_NUMBER, w, d),
         13 => read_rank(w, d),
         15 => read_limit(w, d),
         16 => read_limit_number(w, d),
@@ -887,14 +1008,18 @@ fn count_chain(d: Draft) -> Draft
 fn end_line(d: Draft) -> Draft
     ensures { λ r. ⌜ r ≡ lineEnd d ⌝ }
 {
-    let chain = choose(d.want == 18, wants(count_chain(d), 4), fails(d, d.want));
+    let chain = choose(
+        d.want == WANT_ENTRIES,
+        wants(count_chain(d), WANT_CHAIN),
+        fails(d, d.want),
+    );
     choose(
-        d.want < 5,
+        d.want < WANT_EDITION,
         d,
         choose(
-            d.want == 6,
-            wants(d, 2),
-            choose(d.want == 14, wants(d, 3), chain),
+            d.want == WANT_EDITION_END,
+            wants(d, WANT_TASK),
+            choose(d.want == WANT_TASK_END, wants(d, WANT_MORE), chain),
         ),
     )
 }
@@ -902,7 +1027,11 @@ fn end_line(d: Draft) -> Draft
 fn end_text(d: Draft) -> Draft
     ensures { λ r. ⌜ r ≡ textEnd d ⌝ }
 {
-    choose(d.wrong == 0, choose(d.want == 4, d, fails(d, d.want)), d)
+    choose(
+        d.wrong == 0,
+        choose(d.want == WANT_CHAIN, d, fails(d, d.want)),
+        d,
+    )
 }
 
 // ---- the bytes of a text
@@ -946,7 +1075,7 @@ fn keep_name(starts: &mut [usize], begins: bool, want: u8, count: u8, at: usize)
 {
     let k = count as usize;
     if begins {
-        if want == 7 {
+        if want == WANT_NAME {
             if k < starts.len() {
                 starts[k] = at;
             }
@@ -973,7 +1102,7 @@ fn blank_draft() -> Draft
         edition: 0,
         count: 0,
         suite: 0,
-        want: 1,
+        want: WANT_OPENING,
         wrong: 0,
     }
 }
@@ -1115,7 +1244,7 @@ pub fn parse(text: &[u8]) -> Parsed
     ensures { λ r. ⌜ ParsePromise (now (text .entry)) r ⌝ }
 {
     if SIZE < text.len() {
-        return faulty_at(text, SIZE, 24);
+        return faulty_at(text, SIZE, TOO_LONG);
     }
     let e = scan(text);
     let d = e.draft;

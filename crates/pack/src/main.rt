@@ -55,7 +55,7 @@ fn pack(typed: &[u8]) {
     }
 }
 
-// A byte more than a text may have, so that one that is too long is seen to be.
+// What lies past the 16,385th byte never changes the answer, so this buffer serves texts of any length.
 fn main() {
     let mut input = [0u8; 16385];
     let n = io::read_full(0, &mut input);

@@ -18,6 +18,7 @@ pub mod LineLaws
 pub mod ChainLaws
 pub mod SizeLaws
 pub mod ReadBack
--- The results: the round trip, and one answer for each input.
+-- The results: the round trip, long texts, and one answer for each input.
 pub mod RoundTrip
+pub mod LongTexts
 pub mod Unique

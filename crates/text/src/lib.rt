@@ -1,4 +1,6 @@
-// Timing sheets typed as text: a sheet shown as text, and a text read as a sheet. What is shown is one list of bytes (specs/Shown.antt).
+// Timing sheets typed as text. `show` puts a sheet's text, which is one list of bytes, line by line (specs/Shown.antt). `parse` reads a text word
+// by word (specs/Words.antt), by a table of what is wanted next (specs/Grammar.antt), to its end or to the first thing that is wrong
+// (specs/Run.antt). That what is shown says the sheet is proved of them (specs/RoundTrip.antt).
 use answers::Refusal;
 use answers::Verdict;
 use sheet::Chain;

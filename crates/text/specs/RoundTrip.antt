@@ -1,5 +1,5 @@
 -- Reading the shown text gives back the same sheet, from call to call.
-use mathlib.Core.Path.{_≡_, sym, ap, ap₂, _∙_}
+use mathlib.Core.Path.{_≡_, refl, sym, ap, ap₂, _∙_}
 use mathlib.Core.Bool.{cond}
 use mathlib.Core.List.{List, []}
 use Prim.Native.Nat.{ℕ}
@@ -9,10 +9,15 @@ use lib.ListN.{length, take, drop}
 use lib.Seq.{take-at}
 use borrow.Author.Tests.{le-ltb}
 use Rattle.answers.specs.Answers.{given, fine, when, also}
-use Rattle.answers.specs.AnswerLaws.{also-given}
+use Rattle.answers.specs.declared.Verdict.the-variants.{Fine}
+use Rattle.answers.specs.AnswerLaws.{also-given, also-fine}
+use Rattle.bits.specs.Bytes.{Bytes as AreBytes}
 use Rattle.sheet.specs.declared.Sheet.{Sheet}
+use Rattle.sheet.specs.declared.Reading.{Reading}
 use Rattle.sheet.specs.declared.Written.the-variants.{Bytes}
-use Rattle.sheet.specs.Calls.{judgeOf, RanksFit, cleared}
+use Rattle.sheet.specs.Calls.{judgeOf, RanksFit, cleared, readOf}
+use Rattle.sheet.specs.Promises.{ReadPromise}
+use Rattle.sheet.specs.EncodedLaws.{encoded-read, read-encoded, read-judged}
 use Rattle.sheet.specs.SoundLaws.{judged-sound}
 use Rattle.text.specs.declared.Parsed.{Parsed}
 use Rattle.text.specs.Shown.{textOf}
@@ -48,3 +53,18 @@ show-parse s old new n x fit h p =
     let front : take n new ≡ textOf s = ap (take n) (h .1) ∙ take-at (textOf s) (drop (length (textOf s)) old) n (sym (f .1)) in
     let e = p ∙ ap parseOf front ∙ parse-text s (f .0) fit in
     (ap (λ y. y .fault) e, ap (λ y. y .sheet) e)
+
+-- a sheet that was read has its unused places zero
+read-cleared : (bytes : List ℕ) (s : Sheet) → AreBytes bytes → readOf bytes ≡ given s → cleared s ≡ s
+read-cleared bytes s fit e =
+    let j = read-judged bytes s e in
+    let q : given (cleared s) ≡ given s = sym (encoded-read s (j .1) (j .0)) ∙ ap readOf (read-encoded bytes s fit e) ∙ e in cc
+
+-- So what stands on the page is what the bytes say: the sheet that was read from them is the one that its text says.
+pub read-show-parse : (bytes old new : List ℕ) (r : Reading) (n : ℕ) (x : Parsed) → AreBytes bytes → ReadPromise bytes r → r .verdict ≡ Fine
+    → ShowPromise (r .sheet) old (Bytes n) new → ParsePromise (take n new) x → (x .fault ≡ 0) × (x .sheet ≡ r .sheet)
+read-show-parse bytes old new r n x fit h f shown parsed =
+    let s = r .sheet in
+    let e : readOf bytes ≡ given s = sym (h .0) ∙ also-fine (given s) refl f in
+    let p = show-parse s old new n x (read-judged bytes s e .1) shown parsed in
+    (p .0, p .1 ∙ read-cleared bytes s fit e)

@@ -3,7 +3,7 @@
 use crate::generate::sheet;
 use crate::random::Random;
 use crate::sheet::{Chain, Memory, OLD_LIMIT};
-use crate::text::{KEYWORDS, MOST};
+use crate::text::{Fault, Fault::*, KEYWORDS, MOST};
 
 /// Words that are nearly right, numbers at the ends of ranges, and bytes that belong to no word of a text.
 const WORDS: [&str; 41] = [
@@ -176,4 +176,43 @@ pub fn text(r: &mut Random) -> Vec<u8> {
         _ => {}
     }
     text
+}
+
+/// A text for each thing that can be wrong with one.
+pub fn each_fault() -> Vec<(Fault, Vec<u8>)> {
+    let task = "task a period 20 budget 5 rank 1\n";
+    let both = format!("{task}task b period 20 budget 5 rank 2\n");
+    let tasks = |n: u32| (0..n).map(|i| format!("task t{i} period 9 budget 1 rank {i}\n")).collect::<String>();
+    let mut faults: Vec<(Fault, String)> = vec![
+        (Mistake(0), "Task".into()),
+        (Mistake(1), "edition 1\nchain".into()),
+        (Mistake(2), task.into()),
+        (Mistake(3), format!("{task}chain a\n{task}")),
+        (Mistake(4), "edition".into()),
+        (Mistake(5), "edition 2 2".into()),
+        (Mistake(13), task.replace('\n', " 5")),
+        (Mistake(14), format!("{task}chain")),
+        (Mistake(15), format!("{task}chain limit a")),
+        (Mistake(16), format!("{task}chain limit 5\n")),
+        (Mistake(17), format!("{task}chain a -> b")),
+        (Mistake(18), format!("{task}{task}")),
+        (Mistake(19), format!("{task}chain b")),
+        (Mistake(20), task.replace('1', "256")),
+        (Mistake(21), format!("edition 1\n{task}chain limit 5 a")),
+        (Mistake(22), format!("edition 1\n{both}chain a\nchain b")),
+        (Mistake(23), format!("{task}chain a\n#{}", "x".repeat(MOST))),
+        (Refused(2), format!("{}chain t0", tasks(17))),
+        (Refused(3), task.replace("20", "100001")),
+        (Refused(4), task.replace('5', "21")),
+        (Refused(5), format!("{task}task b period 20 budget 5 rank 1\n")),
+        (Refused(6), format!("{task}chain a 0")),
+        (Refused(7), format!("{task}chain 1")),
+        (Refused(8), format!("{both}chain a a")),
+        (Refused(13), format!("{task}chain limit 4000001 a")),
+        (Refused(16), format!("edition 3\n{task}chain a")),
+        (Refused(17), tasks(9) + &(0..9).map(|i| format!("chain t{i}\n")).collect::<String>()),
+    ];
+    let words = ["task", "a", "period", "20", "budget", "5", "rank"];
+    faults.extend((6..=12).zip(1..).map(|(mistake, before)| (Mistake(mistake), words[..before].join(" ") + " ?")));
+    faults.into_iter().map(|(fault, text)| (fault, text.into_bytes())).collect()
 }

@@ -4,7 +4,7 @@ use model::generate::sheet as any_sheet;
 use model::random::Random;
 use model::sheet::{chain, judge, memory, read, suite, unjudged, Memory, Task};
 use model::text::{named, parse, shown, Fault, Wrong, MOST};
-use model::texts::{text as any_text, typed};
+use model::texts::{each_fault, text as any_text, typed};
 use std::collections::BTreeSet;
 
 const RADIO: &str = "# Radio, master clock\n\
@@ -45,6 +45,17 @@ fn edition(line: &str) -> String {
 fn the_page_of_the_issue() {
     says(RADIO, &old_radio());
     assert_eq!(shown(&old_radio()).unwrap(), RADIO[22..].replace("sampler", "task0").replace("corrector", "task1").replace("stamper", "task2"));
+}
+
+/// Twenty-four mistakes and ten refusals.
+#[test]
+fn each_has_a_text() {
+    let mut faults = BTreeSet::new();
+    for (fault, text) in each_fault() {
+        assert_eq!(Some(fault), parse(&text).err().map(|wrong| wrong.fault), "{}", text.escape_ascii());
+        faults.insert(format!("{fault:?}"));
+    }
+    assert_eq!(24 + 10, faults.len());
 }
 
 #[test]

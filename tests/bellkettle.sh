@@ -204,31 +204,31 @@ mistyped() { # mistake|refused NUMBER LINE COLUMN TEXT, as printf has it
 a='task a period 20 budget 5 rank 1\n' b='task b period 6 budget 1 rank 3\n' sixteen='' nine=''
 for i in 0 1 2 3 4 5 6 7 8 9 10 11 12 13 14 15; do sixteen="${sixteen}task t$i period 100 budget 1 rank $i\n"; done
 for i in 0 1 2 3 4 5 6 7 8; do nine="${nine}chain t$i\n"; done
-mistyped mistake 0 1 1 ''
-mistyped mistake 0 2 3 '\n  Task a period 20 budget 5 rank 1\n'
-mistyped mistake 1 2 1 'edition 1\nchain a\n'
-mistyped mistake 2 1 33 "${a%??}"
-mistyped mistake 2 3 1 "$a$b"
-mistyped mistake 3 3 1 "${a}chain a\n$b"
-mistyped mistake 4 1 8 'edition\n'
-mistyped mistake 5 1 11 'edition 2 task\n'
-mistyped mistake 6 1 6 'task period 20 budget 5 rank 1\n'
-mistyped mistake 7 1 8 'task a perod 20 budget 5 rank 1\n'
-mistyped mistake 8 1 15 'task a period -20 budget 5 rank 1\n'
-mistyped mistake 9 1 18 'task a period 20 5 rank 1\n'
-mistyped mistake 10 1 25 'task a period 20 budget five rank 1\n'
-mistyped mistake 11 1 27 'task a period 20 budget 5\r\n'
-mistyped mistake 12 1 34 'task a period 20 budget 5 rank #1\n'
-mistyped mistake 13 1 34 'task a period 20 budget 5 rank 1 chain a\n'
-mistyped mistake 14 2 6 "${a}chain\n"
-mistyped mistake 15 2 13 "${a}chain limit a\n"
-mistyped mistake 16 2 15 "${a}chain limit 10\n"
-mistyped mistake 17 3 9 "$a${b}chain a > b\n"
-mistyped mistake 18 2 6 "$a$a"
-mistyped mistake 19 3 9 "$a${b}chain a B\n"
-mistyped mistake 20 1 32 'task a period 20 budget 5 rank 256\n'
-mistyped mistake 21 3 7 "edition 1\n${a}chain limit 10 a\n"
-mistyped mistake 22 4 1 "edition 1\n${a}chain a\nchain 0\n"
+mistyped mistake 1 1 1 ''
+mistyped mistake 1 2 3 '\n  Task a period 20 budget 5 rank 1\n'
+mistyped mistake 2 2 1 'edition 1\nchain a\n'
+mistyped mistake 3 1 33 "${a%??}"
+mistyped mistake 3 3 1 "$a$b"
+mistyped mistake 4 3 1 "${a}chain a\n$b"
+mistyped mistake 5 1 8 'edition\n'
+mistyped mistake 6 1 11 'edition 2 task\n'
+mistyped mistake 7 1 6 'task period 20 budget 5 rank 1\n'
+mistyped mistake 8 1 8 'task a perod 20 budget 5 rank 1\n'
+mistyped mistake 9 1 15 'task a period -20 budget 5 rank 1\n'
+mistyped mistake 10 1 18 'task a period 20 5 rank 1\n'
+mistyped mistake 11 1 25 'task a period 20 budget five rank 1\n'
+mistyped mistake 12 1 27 'task a period 20 budget 5\r\n'
+mistyped mistake 13 1 34 'task a period 20 budget 5 rank #1\n'
+mistyped mistake 14 1 34 'task a period 20 budget 5 rank 1 chain a\n'
+mistyped mistake 15 2 6 "${a}chain\n"
+mistyped mistake 16 2 13 "${a}chain limit a\n"
+mistyped mistake 17 2 15 "${a}chain limit 10\n"
+mistyped mistake 18 3 9 "$a${b}chain a > b\n"
+mistyped mistake 19 2 6 "$a$a"
+mistyped mistake 20 3 9 "$a${b}chain a B\n"
+mistyped mistake 21 1 32 'task a period 20 budget 5 rank 256\n'
+mistyped mistake 22 3 7 "edition 1\n${a}chain limit 10 a\n"
+mistyped mistake 23 4 1 "edition 1\n${a}chain a\nchain 0\n"
 mistyped refused 2 17 1 "$sixteen$a"
 mistyped refused 3 1 15 'task a period 100001 budget 5 rank 1\n'
 mistyped refused 4 1 25 'task a period 20 budget 21 rank 1\n'
@@ -244,7 +244,7 @@ mistyped refused 17 25 1 "$sixteen$nine"
 { cat samples/radio.txt && head -c 1000000 /dev/zero; } >"$room/long.txt"
 for words in "report $room/long.txt" "bound --text $room/long.txt" "convert --to 2 $room/long.txt" "text $room/long.txt" "sheet $room/long.txt"; do
     try "$words" ./bellkettle $words
-    ends 1 && prints_nothing && says "^bellkettle: $room/long.txt:6:[0-9]*: $(sed -n 's/^| 23 | \(.*\) | \(.*\) |$/expected \1; \2/p' tools/mistakes.txt)\$"
+    ends 1 && prints_nothing && says "^bellkettle: $room/long.txt:6:[0-9]*: $(sed -n 's/^| 24 | \(.*\) | \(.*\) |$/expected \1; \2/p' tools/mistakes.txt)\$"
 done
 try 'a text without an end' ./bellkettle report --text /dev/zero
 ends 1 && prints_nothing && says '^bellkettle: /dev/zero:1:16385: expected the end of the text; ' && [ "$(wc -c <"$room/err")" -lt 500 ] || wrong 'only a part of the line expected'

@@ -122,63 +122,63 @@ impl Draft {
     /// The mistake where a line begins with another word than those that may come now.
     fn wanted(&self) -> u8 {
         match (self.edition, &self.tasks[..], &self.chains[..]) {
-            (None, [], []) => 0,
-            (_, [], []) => 1,
-            (_, _, []) => 2,
-            _ => 3,
+            (None, [], []) => 1,
+            (_, [], []) => 2,
+            (_, _, []) => 3,
+            _ => 4,
         }
     }
 
     fn line(&mut self, l: &mut Line) -> Result<(), Wrong> {
         match (l.next(), self.wanted()) {
             (None, _) => Ok(()),
-            (Some(b"edition"), 0) => self.edition(l),
-            (Some(b"task"), 0..=2) => self.task(l),
-            (Some(b"chain"), 2..=3) => self.chain(l),
+            (Some(b"edition"), 1) => self.edition(l),
+            (Some(b"task"), 1..=3) => self.task(l),
+            (Some(b"chain"), 3..=4) => self.chain(l),
             (_, mistake) => Err(l.wrong(Mistake(mistake))),
         }
     }
 
     fn edition(&mut self, l: &mut Line) -> Result<(), Wrong> {
-        let edition = l.number(4)?;
+        let edition = l.number(5)?;
         l.refuse_if(edition != 1 && edition != 2, Refused(16))?;
         self.edition = Some(edition);
-        l.end(5)
+        l.end(6)
     }
 
     fn task(&mut self, l: &mut Line) -> Result<(), Wrong> {
         l.refuse_if(self.tasks.len() == 16, Refused(2))?;
-        let name = l.next().filter(|word| is_name(word)).ok_or_else(|| l.wrong(Mistake(6)))?.to_vec();
-        l.refuse_if(self.names.contains(&name), Mistake(18))?;
-        l.keyword("period", 7)?;
-        let period = l.number(8)?;
+        let name = l.next().filter(|word| is_name(word)).ok_or_else(|| l.wrong(Mistake(7)))?.to_vec();
+        l.refuse_if(self.names.contains(&name), Mistake(19))?;
+        l.keyword("period", 8)?;
+        let period = l.number(9)?;
         l.refuse_if(period == 0 || period > 100_000, Refused(3))?;
-        l.keyword("budget", 9)?;
-        let budget = l.number(10)?;
+        l.keyword("budget", 10)?;
+        let budget = l.number(11)?;
         l.refuse_if(budget == 0 || budget > period, Refused(4))?;
-        l.keyword("rank", 11)?;
-        let rank = l.number(12)?;
-        l.refuse_if(rank > 255, Mistake(20))?;
+        l.keyword("rank", 12)?;
+        let rank = l.number(13)?;
+        l.refuse_if(rank > 255, Mistake(21))?;
         l.refuse_if(self.tasks.iter().any(|t| u32::from(t.rank) == rank), Refused(5))?;
         self.names.push(name);
         self.tasks.push(Task { period, budget, rank: rank as u8 });
-        l.end(13)
+        l.end(14)
     }
 
     fn chain(&mut self, l: &mut Line) -> Result<(), Wrong> {
-        l.refuse_if(self.edition == Some(1) && !self.chains.is_empty(), Mistake(22))?;
+        l.refuse_if(self.edition == Some(1) && !self.chains.is_empty(), Mistake(23))?;
         l.refuse_if(self.chains.len() == 8, Refused(17))?;
-        let (mut limit, mut mistake, mut entries) = (None, 14, Vec::new());
+        let (mut limit, mut mistake, mut entries) = (None, 15, Vec::new());
         let mut word = l.next();
         if word == Some(b"limit") {
-            l.refuse_if(self.edition == Some(1), Mistake(21))?;
-            let ticks = l.number(15)?;
+            l.refuse_if(self.edition == Some(1), Mistake(22))?;
+            let ticks = l.number(16)?;
             l.refuse_if(ticks > 4_000_000, Refused(13))?;
-            (limit, mistake, word) = (Some(ticks), 16, l.next());
+            (limit, mistake, word) = (Some(ticks), 17, l.next());
         }
         while word.is_some() || entries.is_empty() {
             entries.push(self.entry(l, word, &entries, mistake)?);
-            (mistake, word) = (17, l.next());
+            (mistake, word) = (18, l.next());
         }
         self.chains.push((limit, entries));
         Ok(())
@@ -190,7 +190,7 @@ impl Draft {
         let given = number(word);
         l.refuse_if(given.is_none() && !is_name(word), Mistake(mistake))?;
         let index = given.map(|n| n as usize).or_else(|| self.names.iter().position(|name| name == word));
-        let index = index.ok_or_else(|| l.wrong(Mistake(19)))?;
+        let index = index.ok_or_else(|| l.wrong(Mistake(20)))?;
         l.refuse_if(entries.len() == self.tasks.len(), Refused(6))?;
         l.refuse_if(index >= self.tasks.len(), Refused(7))?;
         l.refuse_if(entries.contains(&(index as u8)), Refused(8))?;
@@ -210,7 +210,7 @@ impl Draft {
 /// The first byte too many of a text that is too long.
 fn too_long(text: &[u8]) -> Wrong {
     let lines: Vec<&[u8]> = text[..MOST].split(|&b| b == b'\n').collect();
-    Wrong { fault: Mistake(23), line: lines.len(), column: lines[lines.len() - 1].len() + 1 }
+    Wrong { fault: Mistake(24), line: lines.len(), column: lines[lines.len() - 1].len() + 1 }
 }
 
 /// The sheet that a text says, or the first thing that is wrong with it.
@@ -219,7 +219,7 @@ pub fn parse(text: &[u8]) -> Result<Memory, Wrong> {
         return Err(too_long(text));
     }
     let mut draft = Draft::default();
-    let mut end = Wrong { fault: Mistake(0), line: 0, column: 0 };
+    let mut end = Wrong { fault: Mistake(1), line: 0, column: 0 };
     for (number, bytes) in (1..).zip(text.split(|&b| b == b'\n')) {
         draft.line(&mut Line::new(number, bytes))?;
         end = Wrong { fault: Mistake(draft.wanted()), line: number, column: bytes.len() + 1 };

@@ -184,23 +184,23 @@ pub fn each_fault() -> Vec<(Fault, Vec<u8>)> {
     let both = format!("{task}task b period 20 budget 5 rank 2\n");
     let tasks = |n: u32| (0..n).map(|i| format!("task t{i} period 9 budget 1 rank {i}\n")).collect::<String>();
     let mut faults: Vec<(Fault, String)> = vec![
-        (Mistake(0), "Task".into()),
-        (Mistake(1), "edition 1\nchain".into()),
-        (Mistake(2), task.into()),
-        (Mistake(3), format!("{task}chain a\n{task}")),
-        (Mistake(4), "edition".into()),
-        (Mistake(5), "edition 2 2".into()),
-        (Mistake(13), task.replace('\n', " 5")),
-        (Mistake(14), format!("{task}chain")),
-        (Mistake(15), format!("{task}chain limit a")),
-        (Mistake(16), format!("{task}chain limit 5\n")),
-        (Mistake(17), format!("{task}chain a -> b")),
-        (Mistake(18), format!("{task}{task}")),
-        (Mistake(19), format!("{task}chain b")),
-        (Mistake(20), task.replace('1', "256")),
-        (Mistake(21), format!("edition 1\n{task}chain limit 5 a")),
-        (Mistake(22), format!("edition 1\n{both}chain a\nchain b")),
-        (Mistake(23), format!("{task}chain a\n#{}", "x".repeat(MOST))),
+        (Mistake(1), "Task".into()),
+        (Mistake(2), "edition 1\nchain".into()),
+        (Mistake(3), task.into()),
+        (Mistake(4), format!("{task}chain a\n{task}")),
+        (Mistake(5), "edition".into()),
+        (Mistake(6), "edition 2 2".into()),
+        (Mistake(14), task.replace('\n', " 5")),
+        (Mistake(15), format!("{task}chain")),
+        (Mistake(16), format!("{task}chain limit a")),
+        (Mistake(17), format!("{task}chain limit 5\n")),
+        (Mistake(18), format!("{task}chain a -> b")),
+        (Mistake(19), format!("{task}{task}")),
+        (Mistake(20), format!("{task}chain b")),
+        (Mistake(21), task.replace('1', "256")),
+        (Mistake(22), format!("edition 1\n{task}chain limit 5 a")),
+        (Mistake(23), format!("edition 1\n{both}chain a\nchain b")),
+        (Mistake(24), format!("{task}chain a\n#{}", "x".repeat(MOST))),
         (Refused(2), format!("{}chain t0", tasks(17))),
         (Refused(3), task.replace("20", "100001")),
         (Refused(4), task.replace('5', "21")),
@@ -213,6 +213,6 @@ pub fn each_fault() -> Vec<(Fault, Vec<u8>)> {
         (Refused(17), tasks(9) + &(0..9).map(|i| format!("chain t{i}\n")).collect::<String>()),
     ];
     let words = ["task", "a", "period", "20", "budget", "5", "rank"];
-    faults.extend((6..=12).zip(1..).map(|(mistake, before)| (Mistake(mistake), words[..before].join(" ") + " ?")));
+    faults.extend((7..=13).zip(1..).map(|(mistake, before)| (Mistake(mistake), words[..before].join(" ") + " ?")));
     faults.into_iter().map(|(fault, text)| (fault, text.into_bytes())).collect()
 }

@@ -86,8 +86,8 @@ fn the_edition() {
     says(&format!("edition 2\n{}", edited("chain", "chain limit 39")), &one(39));
     says(&format!("{RADIO}chain limit 7 stamper"), &suite(&radio_tasks(), &[chain(1_000, &[0, 1, 2]), chain(7, &[2])]));
     says(&format!("{RADIO}chain 2\nchain 1 sampler"), &suite(&radio_tasks(), &[chain(1_000, &[0, 1, 2]), chain(1_000, &[2]), chain(1_000, &[1, 0])]));
-    wrong(&format!("edition 1\n{}", edited("chain", "chain limit 1000")), "mistake 21 line 6 column 7");
-    wrong(&format!("{}chain 0\n", edition("edition 1")), "mistake 22 line 7 column 1");
+    wrong(&format!("edition 1\n{}", edited("chain", "chain limit 1000")), "mistake 22 line 6 column 7");
+    wrong(&format!("{}chain 0\n", edition("edition 1")), "mistake 23 line 7 column 1");
     for number in ["0", "3", "12", "4294967297", "4294967298", "18446744073709551617"] {
         wrong(&edition(&format!("edition {number}")), "refused 16 line 1 column 9");
     }
@@ -96,23 +96,23 @@ fn the_edition() {
 #[test]
 fn the_first_word_of_a_line() {
     for text in ["chain 0\n", "Task a\n", "period 5\n", "edition1\n", "a", "5", "\0", "\u{feff}task a period 5 budget 5 rank 1\nchain a\n"] {
-        wrong(text, "mistake 0 line 1 column 1");
+        wrong(text, "mistake 1 line 1 column 1");
     }
-    wrong("", "mistake 0 line 1 column 1");
-    wrong("   ", "mistake 0 line 1 column 4");
-    wrong("\n\n", "mistake 0 line 3 column 1");
-    wrong("# nothing", "mistake 0 line 1 column 10");
-    wrong("edition 1", "mistake 1 line 1 column 10");
-    wrong("edition 1\n", "mistake 1 line 2 column 1");
-    wrong("edition 1\nedition 1\n", "mistake 1 line 2 column 1");
-    wrong("edition 2\n\n  chain 0", "mistake 1 line 3 column 3");
-    wrong("task a period 5 budget 5 rank 1", "mistake 2 line 1 column 32");
-    wrong("task a period 5 budget 5 rank 1\n#\n", "mistake 2 line 3 column 1");
-    wrong("task a period 5 budget 5 rank 1\r\nedition 1\r\nchain a", "mistake 2 line 2 column 1");
-    wrong("task a period 5 budget 5 rank 1\na", "mistake 2 line 2 column 1");
-    wrong(&format!("{RADIO}task d period 5 budget 1 rank 0\n"), "mistake 3 line 6 column 1");
-    wrong(&format!("{RADIO}sampler\n"), "mistake 3 line 6 column 1");
-    wrong(&format!("{RADIO} edition 2"), "mistake 3 line 6 column 2");
+    wrong("", "mistake 1 line 1 column 1");
+    wrong("   ", "mistake 1 line 1 column 4");
+    wrong("\n\n", "mistake 1 line 3 column 1");
+    wrong("# nothing", "mistake 1 line 1 column 10");
+    wrong("edition 1", "mistake 2 line 1 column 10");
+    wrong("edition 1\n", "mistake 2 line 2 column 1");
+    wrong("edition 1\nedition 1\n", "mistake 2 line 2 column 1");
+    wrong("edition 2\n\n  chain 0", "mistake 2 line 3 column 3");
+    wrong("task a period 5 budget 5 rank 1", "mistake 3 line 1 column 32");
+    wrong("task a period 5 budget 5 rank 1\n#\n", "mistake 3 line 3 column 1");
+    wrong("task a period 5 budget 5 rank 1\r\nedition 1\r\nchain a", "mistake 3 line 2 column 1");
+    wrong("task a period 5 budget 5 rank 1\na", "mistake 3 line 2 column 1");
+    wrong(&format!("{RADIO}task d period 5 budget 1 rank 0\n"), "mistake 4 line 6 column 1");
+    wrong(&format!("{RADIO}sampler\n"), "mistake 4 line 6 column 1");
+    wrong(&format!("{RADIO} edition 2"), "mistake 4 line 6 column 2");
 }
 
 /// Each place of a line with the wrong word, with no word, with the end of the text, and with one word too many.
@@ -120,7 +120,7 @@ fn the_first_word_of_a_line() {
 fn words_of_a_line() {
     let task = ["task", "a", "period", "20", "budget", "5", "rank", "1"];
     let strange = ["-1", "rank", "perio", "+20", "Budget", "5.", "ranks", "1,"];
-    for (place, mistake) in (1..8).zip([6, 7, 8, 9, 10, 11, 12]) {
+    for (place, mistake) in (1..8).zip([7, 8, 9, 10, 11, 12, 13]) {
         let mut front = task[..place].join(" ");
         wrong(&front, &format!("mistake {mistake} line 1 column {}", front.len() + 1));
         wrong(&format!("\n{front} # \nchain a\n"), &format!("mistake {mistake} line 2 column {}", front.len() + 4));
@@ -128,24 +128,24 @@ fn words_of_a_line() {
         let bad = if place == 1 { "a.b" } else { strange[place] };
         wrong(&format!("{front}{bad} {}\n", task[place + 1..].join(" ")), &format!("mistake {mistake} line 1 column {}", front.len() + 1));
     }
-    wrong("edition", "mistake 4 line 1 column 8");
-    wrong("edition two\n", "mistake 4 line 1 column 9");
-    wrong("edition 1 task\n", "mistake 5 line 1 column 11");
-    wrong("task a period 5 budget 5 rank 1 1\n", "mistake 13 line 1 column 33");
-    wrong("task a period 5 budget 5 rank 1 chain a\n", "mistake 13 line 1 column 33");
+    wrong("edition", "mistake 5 line 1 column 8");
+    wrong("edition two\n", "mistake 5 line 1 column 9");
+    wrong("edition 1 task\n", "mistake 6 line 1 column 11");
+    wrong("task a period 5 budget 5 rank 1 1\n", "mistake 14 line 1 column 33");
+    wrong("task a period 5 budget 5 rank 1 chain a\n", "mistake 14 line 1 column 33");
     for (line, expected) in [
-        ("chain", "mistake 14 line 5 column 6"),
-        ("chain # sampler", "mistake 14 line 5 column 16"),
-        ("chain task", "mistake 14 line 5 column 7"),
-        ("chain a.b", "mistake 14 line 5 column 7"),
-        ("chain limit", "mistake 15 line 5 column 12"),
-        ("chain limit sampler", "mistake 15 line 5 column 13"),
-        ("chain limit -1 sampler", "mistake 15 line 5 column 13"),
-        ("chain limit 5", "mistake 16 line 5 column 14"),
-        ("chain limit 5 limit 6 sampler", "mistake 16 line 5 column 15"),
-        ("chain sampler corrector; stamper", "mistake 17 line 5 column 15"),
-        ("chain sampler limit 5", "mistake 17 line 5 column 15"),
-        ("chain sampler -> corrector", "mistake 17 line 5 column 15"),
+        ("chain", "mistake 15 line 5 column 6"),
+        ("chain # sampler", "mistake 15 line 5 column 16"),
+        ("chain task", "mistake 15 line 5 column 7"),
+        ("chain a.b", "mistake 15 line 5 column 7"),
+        ("chain limit", "mistake 16 line 5 column 12"),
+        ("chain limit sampler", "mistake 16 line 5 column 13"),
+        ("chain limit -1 sampler", "mistake 16 line 5 column 13"),
+        ("chain limit 5", "mistake 17 line 5 column 14"),
+        ("chain limit 5 limit 6 sampler", "mistake 17 line 5 column 15"),
+        ("chain sampler corrector; stamper", "mistake 18 line 5 column 15"),
+        ("chain sampler limit 5", "mistake 18 line 5 column 15"),
+        ("chain sampler -> corrector", "mistake 18 line 5 column 15"),
     ] {
         wrong(&edited("chain sampler corrector stamper", line), expected);
     }
@@ -156,16 +156,16 @@ fn names() {
     for name in ["a", "A", "Sampler", "SAMPLER", "-", "_", "tasks", "1a", "0x14", "4294967296-", "sample", "samplers", &"x".repeat(8_000)] {
         let text = edited("task sampler", &format!("task {name}")).replace("chain sampler", &format!("chain {name}"));
         says(&text, &old_radio());
-        wrong(&text.replace(&format!("chain {name}"), "chain nobody"), "mistake 19 line 5 column 7");
+        wrong(&text.replace(&format!("chain {name}"), "chain nobody"), "mistake 20 line 5 column 7");
     }
     for name in ["edition", "task", "period", "budget", "rank", "chain", "limit", "1", "007", "a.b", "é", "a,", "'a'", "a\0"] {
-        wrong(&edited("task sampler", &format!("task {name}")), "mistake 6 line 2 column 6");
+        wrong(&edited("task sampler", &format!("task {name}")), "mistake 7 line 2 column 6");
     }
-    wrong(&edited("task corrector", "task sampler"), "mistake 18 line 3 column 6");
-    wrong(&edited("task stamper", "task\tsampler"), "mistake 18 line 4 column 6");
-    wrong(&edited("chain sampler corrector", "chain sampler Corrector"), "mistake 19 line 5 column 15");
-    wrong(&edited("chain sampler corrector", "chain sampler correct"), "mistake 19 line 5 column 15");
-    wrong(&edited("chain sampler", "chain limit 5 smapler"), "mistake 19 line 5 column 15");
+    wrong(&edited("task corrector", "task sampler"), "mistake 19 line 3 column 6");
+    wrong(&edited("task stamper", "task\tsampler"), "mistake 19 line 4 column 6");
+    wrong(&edited("chain sampler corrector", "chain sampler Corrector"), "mistake 20 line 5 column 15");
+    wrong(&edited("chain sampler corrector", "chain sampler correct"), "mistake 20 line 5 column 15");
+    wrong(&edited("chain sampler", "chain limit 5 smapler"), "mistake 20 line 5 column 15");
 }
 
 #[test]
@@ -175,16 +175,16 @@ fn fields() {
         ("period 20", "period 100001", "refused 3 line 2 column 21"),
         ("period 20", "period 4294967316", "refused 3 line 2 column 21"),
         ("period 20", "period 18446744073709551636", "refused 3 line 2 column 21"),
-        ("period 20", "period +20", "mistake 8 line 2 column 21"),
+        ("period 20", "period +20", "mistake 9 line 2 column 21"),
         ("budget 5", "budget 0", "refused 4 line 2 column 31"),
         ("budget 5", "budget 21", "refused 4 line 2 column 31"),
         ("budget 5", "budget 4294967297", "refused 4 line 2 column 31"),
-        ("budget 5", "budget -5", "mistake 10 line 2 column 31"),
+        ("budget 5", "budget -5", "mistake 11 line 2 column 31"),
         ("rank 3", "rank 1", "refused 5 line 3 column 39"),
         ("rank 3", "rank 01", "refused 5 line 3 column 39"),
-        ("rank 3", "rank 256", "mistake 20 line 3 column 39"),
-        ("rank 3", "rank 257", "mistake 20 line 3 column 39"),
-        ("rank 3", "rank 4294967297", "mistake 20 line 3 column 39"),
+        ("rank 3", "rank 256", "mistake 21 line 3 column 39"),
+        ("rank 3", "rank 257", "mistake 21 line 3 column 39"),
+        ("rank 3", "rank 4294967297", "mistake 21 line 3 column 39"),
         ("chain", "chain limit 4000001", "refused 13 line 5 column 13"),
         ("chain", "chain limit 4294968296", "refused 13 line 5 column 13"),
         ("chain sampler corrector", "chain 3 4", "refused 7 line 5 column 7"),
@@ -195,8 +195,8 @@ fn fields() {
         ("corrector stamper", "corrector 0", "refused 8 line 5 column 25"),
         ("corrector stamper", "corrector stamper 3", "refused 6 line 5 column 33"),
         ("corrector stamper", "corrector stamper sampler", "refused 6 line 5 column 33"),
-        ("corrector stamper", "corrector stamper nobody", "mistake 19 line 5 column 33"),
-        ("corrector stamper", "corrector stamper limit", "mistake 17 line 5 column 33"),
+        ("corrector stamper", "corrector stamper nobody", "mistake 20 line 5 column 33"),
+        ("corrector stamper", "corrector stamper limit", "mistake 18 line 5 column 33"),
     ] {
         wrong(&edited(old, new), expected);
     }
@@ -227,15 +227,15 @@ fn counts() {
 fn lengths() {
     let filled = |length: usize| format!("{RADIO}#{}", "x".repeat(length - RADIO.len() - 1));
     says(&filled(MOST), &old_radio());
-    wrong(&filled(MOST + 1), &format!("mistake 23 line 6 column {}", MOST + 1 - RADIO.len()));
-    wrong(&filled(65_536), &format!("mistake 23 line 6 column {}", MOST + 1 - RADIO.len()));
+    wrong(&filled(MOST + 1), &format!("mistake 24 line 6 column {}", MOST + 1 - RADIO.len()));
+    wrong(&filled(65_536), &format!("mistake 24 line 6 column {}", MOST + 1 - RADIO.len()));
     says(&format!("{}{RADIO}", "\n".repeat(MOST - RADIO.len())), &old_radio());
-    wrong(&"\n".repeat(MOST), "mistake 0 line 16385 column 1");
-    wrong(&"\n".repeat(MOST + 1), "mistake 23 line 16385 column 1");
-    wrong(&" ".repeat(MOST + 1), "mistake 23 line 1 column 16385");
+    wrong(&"\n".repeat(MOST), "mistake 1 line 16385 column 1");
+    wrong(&"\n".repeat(MOST + 1), "mistake 24 line 16385 column 1");
+    wrong(&" ".repeat(MOST + 1), "mistake 24 line 1 column 16385");
     // Before all else.
-    wrong(&"?".repeat(MOST + 1), "mistake 23 line 1 column 16385");
-    wrong(&"?".repeat(MOST), "mistake 0 line 1 column 1");
+    wrong(&"?".repeat(MOST + 1), "mistake 24 line 1 column 16385");
+    wrong(&"?".repeat(MOST), "mistake 1 line 1 column 1");
 }
 
 /// "a text beside each sheet that is well formed": it says the sheet, and but for names and comments it is what is shown.
@@ -351,7 +351,7 @@ fn texts_by_chance() {
             Err(wrong) => {
                 let place = offset(&text, &wrong);
                 faults.insert(format!("{:?}", wrong.fault));
-                if wrong.fault == Fault::Mistake(23) {
+                if wrong.fault == Fault::Mistake(24) {
                     assert_eq!(MOST, place);
                     continue;
                 }

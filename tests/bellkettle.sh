@@ -334,7 +334,10 @@ cat samples/radio.report samples/suite.report samples/odd.bound "$room/out" "$ro
     grep -qxF "    $line" README.md docs/FORMAT.md || wrong "README.md or docs/FORMAT.md expected to print: $line"
 done
 
-# README's texts, a sheet that it shows, and what it says of a text with two faults.
+# README's texts, the first of them typed by hand; a sheet that it shows, and what it says of a text with two faults.
+sed -n '/^A timing sheet is typed as text/,/^A task is released/s/^    //p' README.md >"$room/radio.txt"
+try 'the text that README begins with' ./bellkettle report "$room/radio.txt"
+ends 0 && says_nothing && prints samples/radio.report
 sed 's/period 6 budget 1/perid 6 budget 9/' samples/radio.txt >"$room/radio.txt"
 try 'the text that README mends' sh -c 'cd "$1" && "$2/bellkettle" report radio.txt' sh "$room" "$here"
 cp "$room/err" "$room/said"

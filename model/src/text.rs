@@ -1,4 +1,4 @@
-//! Sheets typed as text, in both editions: lines of words, read one after the other; and a sheet shown so.
+//! Sheets typed as text, by the words of docs/FORMAT.md: lines of words, read one after the other; and a sheet shown so.
 
 use crate::sheet::{chain, judge, memory, suite, Memory, Task, OLD_LIMIT};
 use crate::Refusal;
@@ -36,7 +36,7 @@ impl std::fmt::Display for Wrong {
     }
 }
 
-/// "A word is a longest run of bytes" that are no blanks, up to a comment; with the column of its first.
+/// The words of a line, each with the column of its first byte: what stands between blanks, up to a comment.
 fn words(line: &[u8]) -> Vec<(usize, &[u8])> {
     let end = line.iter().position(|&b| b == b'#').unwrap_or(line.len());
     let mut at = 1;
@@ -197,7 +197,7 @@ impl Draft {
         Ok(index as u8)
     }
 
-    /// "With a limit or more than one chain the sheet is of edition 2"
+    /// "2 if some chain has a limit or there are several chains, or else 1"
     fn sheet(&self) -> Memory {
         let second = self.chains.len() > 1 || self.chains[0].0.is_some();
         match self.edition.unwrap_or(if second { 2 } else { 1 }) {
@@ -244,7 +244,7 @@ pub fn named(s: &Memory, names: &[&str]) -> String {
     text
 }
 
-/// The text of a sheet in memory, "tasks named task0, task1 and so on", or the first refusal of its fields.
+/// The text of a sheet in memory, its tasks "`task0`, `task1` and so on", or the first refusal of its fields.
 pub fn shown(s: &Memory) -> Result<String, Refusal> {
     judge(s)?;
     let names: Vec<String> = (0..16).map(|i| format!("task{i}")).collect();

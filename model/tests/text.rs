@@ -42,7 +42,7 @@ fn edition(line: &str) -> String {
 }
 
 #[test]
-fn the_page_of_the_issue() {
+fn radio() {
     says(RADIO, &old_radio());
     assert_eq!(shown(&old_radio()).unwrap(), RADIO[22..].replace("sampler", "task0").replace("corrector", "task1").replace("stamper", "task2"));
 }
@@ -238,7 +238,7 @@ fn lengths() {
     wrong(&"?".repeat(MOST), "mistake 1 line 1 column 1");
 }
 
-/// "a text beside each sheet that is well formed": it says the sheet, and but for names and comments it is what is shown.
+/// A text stands beside each sheet that is well formed, and says that sheet; so does what is shown of it.
 #[test]
 fn samples() {
     let folder = concat!(env!("CARGO_MANIFEST_DIR"), "/../samples");
@@ -261,7 +261,7 @@ fn samples() {
     assert!(count > 20);
 }
 
-/// "reading the shown text gives back the same sheet, for every sheet that is judged fine, both editions"
+/// Reading the shown text gives back the same sheet, and so does the sheet typed in any other way.
 #[test]
 fn shown_and_read() {
     let mut r = Random::new(25);

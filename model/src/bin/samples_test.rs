@@ -1,27 +1,12 @@
-//! The sample sheets of both editions, document 01's, one for each refusal and some more, with the report and the quick bound of each and a
-//! text of those that are well formed; and what the programs report, bound, convert, pack and show are run on.
+//! The sample sheets of both editions, document 01's, one for each refusal and some more, with the report and the quick bound of each; and
+//! what the programs report, bound and convert are run on.
 
 use model::report::{bound, converted, report};
-use model::sheet::{chain, encoded, marked_bits, packed, raw_bits, read, suite, unjudged, Memory, Task};
+use model::sheet::{chain, encoded, marked_bits, packed, raw_bits, suite, Memory, Task};
 use model::store;
-use model::text::{named, parse, shown};
-
-/// A text with everything in it that a text may have.
-const TYPED: &str = "# Radio with a display\r\n\r\nedition 2 # said, though the limit says it too\n\n  task sampler period 20\tbudget 005 rank 3\n\
-    task corrector period 6 budget 1 rank 255\r\ntask\tstamper_2 period 12 budget 3 rank 4#\ntask Display period 100000 budget 12345 rank 0\n\
-    chain limit 60 sampler 1 stamper_2\n\nchain 0 corrector 03";
 
 fn tasks(list: &[(u32, u32, u8)]) -> Vec<Task> {
     list.iter().map(|&(period, budget, rank)| Task { period, budget, rank }).collect()
-}
-
-/// The text of a sheet. Radio's tasks and the suite's have names; those of the others are called by their numbers.
-fn text(name: &str, s: &Memory) -> String {
-    match name {
-        "radio" => format!("# Radio, master clock\n{}", named(s, &["sampler", "corrector", "stamper"])),
-        "suite" => format!("# Radio with a display and a bell\n{}", named(s, &["sampler", "corrector", "stamper", "display", "bell"])),
-        _ => shown(s).expect("what is read is fine"),
-    }
 }
 
 fn main() {
@@ -96,21 +81,15 @@ fn main() {
         files.push((format!("samples/{name}.sheet"), bytes.clone()));
         files.push((format!("samples/{name}.report"), report(bytes).into_bytes()));
         files.push((format!("samples/{name}.bound"), bound(bytes).into_bytes()));
-        files.extend(read(bytes).ok().map(|s| (format!("samples/{name}.txt"), text(name, &s).into_bytes())));
     }
-    let bytes_of = |name| &sheets.iter().find(|sheet| sheet.0 == name).unwrap().1;
-    let (radio, odd, suite) = (bytes_of("radio"), bytes_of("odd"), bytes_of("suite"));
+    let named = |name| &sheets.iter().find(|sheet| sheet.0 == name).unwrap().1;
+    let (radio, odd) = (named("radio"), named("odd"));
     files.push(("crates/report/stdin".into(), radio.clone()));
     files.push(("crates/report/stdout".into(), report(radio).into_bytes()));
     files.push(("crates/bound/stdin".into(), odd.clone()));
     files.push(("crates/bound/stdout".into(), bound(odd).into_bytes()));
     files.push(("crates/convert/stdin".into(), [b"2", &radio[..]].concat()));
     files.push(("crates/convert/stdout".into(), converted(2, radio).expect("Radio converts")));
-    let read_suite = read(suite).expect("the suite is fine");
-    files.push(("crates/pack/stdin".into(), TYPED.into()));
-    files.push(("crates/pack/stdout".into(), unjudged(&parse(TYPED.as_bytes()).expect("the text is fine"))));
-    files.push(("crates/show/stdin".into(), suite.clone()));
-    files.push(("crates/show/stdout".into(), shown(&read_suite).expect("the suite is fine").into_bytes()));
     let files: Vec<(&str, Vec<u8>)> = files.iter().map(|(name, content)| (name.as_str(), content.clone())).collect();
     store(&files);
 }

@@ -45,8 +45,10 @@ for command in report bound; do
         try "$command $words" ./bellkettle $command $words
         ends 0 && says_nothing && prints samples/radio.$command
     done
-    try "$command: a text on standard input" sh -c "./bellkettle $command --text <samples/radio.txt"
-    ends 0 && says_nothing && prints samples/radio.$command
+    for words in --text '--text -'; do
+        try "$command $words: a text on standard input" sh -c "./bellkettle $command $words <samples/radio.txt"
+        ends 0 && says_nothing && prints samples/radio.$command
+    done
     try "$command: a text named as the option" sh -c "cd '$room' && '$here/bellkettle' $command --text -- --text"
     ends 0 && says_nothing && prints samples/radio.$command
     try "$command: a text that is not said to be one" sh -c "./bellkettle $command <samples/radio.txt"
@@ -80,10 +82,14 @@ marks() { # LINE, as printf has it, and the MARK under it
     sed -n '2,$s/ *$//p' "$room/err" | cmp -s - "$room/marked" || wrong "this line and its mark expected: $(cat "$room/marked")"
 }
 
+in_words() { # MISTAKE
+    sed -n "s/^| $1 | \(.*\) | \(.*\) |\$/expected \1; \2/p" tools/mistakes.txt
+}
+
 mistyped() { # mistake|refused NUMBER LINE COLUMN TEXT, as printf has it
     printf "$5" >"$room/typed.txt"
     case $1 in
-    mistake) words=$(sed -n "s/^| $2 | \(.*\) | \(.*\) |\$/expected \1; \2/p" tools/mistakes.txt) ;;
+    mistake) words=$(in_words "$2") ;;
     refused) words=$(sed -n "s/^| $2 | \(.*\) | \(.*\) |\$/refused $2: \1; \2/p" tools/refusals.txt) ;;
     esac
     try "$1 $2: $5" ./bellkettle report "$room/typed.txt"
@@ -136,10 +142,11 @@ mistyped refused 17 25 1 "$sixteen$nine"
 { cat samples/radio.txt && head -c 1000000 /dev/zero; } >"$room/long.txt"
 for words in "report $room/long.txt" "bound --text $room/long.txt" "convert --to 2 $room/long.txt" "text $room/long.txt" "sheet $room/long.txt"; do
     try "$words" ./bellkettle $words
-    ends 1 && prints_nothing && says "^bellkettle: $room/long.txt:6:[0-9]*: $(sed -n 's/^| 24 | \(.*\) | \(.*\) |$/expected \1; \2/p' tools/mistakes.txt)\$"
+    ends 1 && prints_nothing && says "^bellkettle: $room/long.txt:6:[0-9]*: $(in_words 24)\$"
 done
 try 'a text without an end' ./bellkettle report --text /dev/zero
-ends 1 && prints_nothing && says '^bellkettle: /dev/zero:1:16385: expected the end of the text; ' && [ "$(wc -c <"$room/err")" -lt 500 ] || wrong 'only a part of the line expected'
+ends 1 && prints_nothing && says '^bellkettle: /dev/zero:1:16385: expected the end of the text; '
+[ "$(wc -c <"$room/err")" -lt 500 ] || wrong 'only a part of the line expected'
 try 'a mistake on standard input' sh -c 'printf "\ttask\tb  perid 5\r\n" | ./bellkettle bound --text'
 ends 1 && prints_nothing && says '^bellkettle: standard input:1:10: ' && marks '\ttask\tb  perid 5' '\t    \t   '
 try 'a letter of two bytes before the place' sh -c 'printf "task a period # \303\251\n" | ./bellkettle sheet'
@@ -183,7 +190,9 @@ for words in 'sheet samples/radio.txt' 'text samples/radio.sheet' 'report sample
     fails 'standard output: not all could be written there; '
 done
 try 'a text typed at a terminal' sh -c 'printf "\004" | script -qec "./bellkettle report --text" /dev/null'
-ends 1 && grep -q '^bellkettle: standard input: a text is awaited here' "$room/out" && grep -q "^bellkettle: standard input:1:1: expected 'task'" "$room/out" || wrong 'to be told that a text is awaited'
+ends 1
+grep -q '^bellkettle: standard input: a text is awaited here' "$room/out" || wrong 'to be told that a text is awaited'
+grep -q "^bellkettle: standard input:1:1: expected 'task'" "$room/out" || wrong "to be told that 'task' is expected"
 leaves_nothing
 
 echo "texts: $tried uses as they should be"

@@ -31,7 +31,9 @@ leave_mistaken() { # says what is wrong with the text and where, and ends
 
 expected() { # MISTAKE: in words
     case $1:$(head -c 3 "$room/input" | od -An -tx1) in
-    '1: ef bb bf' | '1: ff fe'* | '1: fe ff'*) echo 'the file begins with a byte order mark, which editors do not show; save it as plain text without one' ;;
+    '1: ef bb bf' | '1: ff fe'* | '1: fe ff'*)
+        echo 'the file begins with a byte order mark, which editors do not show; save it as plain text without one'
+        ;;
     *)
         because=$(sed -n "s/^| $1 | \(.*\) | \(.*\) |\$/expected \1; \2/p" "$root/tools/mistakes.txt")
         echo "${because:-mistake $1}"

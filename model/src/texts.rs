@@ -7,16 +7,17 @@ use crate::text::{Fault, Fault::*, KEYWORDS, MOST};
 
 /// Words that are nearly right, numbers at the ends of ranges, and bytes that belong to no word of a text.
 const WORDS: [&str; 41] = [
-    "Task", "TASK", "tasks", "edition1", "limit=5", "+5", "-5", "5.0", "0x5", "1e3", "1,000", "a,b", "->", "é", "\u{feff}task", "\0", "0", "00", "1", "2",
-    "3", "7", "8", "9", "15", "16", "17", "255", "256", "999", "1000", "100000", "100001", "4000000", "4000001", "4294967295", "4294967296",
-    "4294967297", "18446744073709551617", "task0", "x",
+    "Task", "TASK", "tasks", "edition1", "limit=5", "+5", "-5", "5.0", "0x5", "1e3", "1,000", "a,b", "->", "é", "\u{feff}task", "\0",
+    "0", "00", "1", "2", "3", "7", "8", "9", "15", "16", "17", "255", "256", "999", "1000", "100000", "100001", "4000000", "4000001",
+    "4294967295", "4294967296", "4294967297", "18446744073709551617", "task0", "x",
 ];
 
 const BLANKS: [&str; 8] = [" ", " ", " ", "  ", "\t", " \t ", "\r", "\r "];
 
 /// A name for each task; some begin another or differ in the case of a letter, some look like words of the grammar.
 fn names(r: &mut Random) -> Vec<String> {
-    let mut names: Vec<String> = ["a", "aa", "A", "aA", "-", "_", "--", "Task", "taskk", "tas", "limit0", "0x1", "1a", "1_000", "edition-2", "x-y_Z"].map(String::from).into();
+    let short = ["a", "aa", "A", "aA", "-", "_", "--", "Task", "taskk", "tas", "limit0", "0x1", "1a", "1_000", "edition-2", "x-y_Z"];
+    let mut names = short.map(String::from).to_vec();
     names.extend((0..16).map(|i| format!("task{i}")));
     names.extend((0..4).map(|i| format!("{}{i}", "long-name_".repeat(r.between(1, 9) as usize))));
     r.shuffle(&mut names);

@@ -11,6 +11,7 @@ use Rattle.sheet.specs.declared.Chain.{Chain}
 use Rattle.sheet.specs.declared.Sheet.{Sheet}
 use Rattle.sheet.specs.Fields.{idle, outside, among}
 use Rattle.sheet.specs.Calls.{places, unused}
+use Rattle.sheet.specs.Conversions.{oldLimit}
 use Rattle.text.specs.declared.Word.{Word}
 use Rattle.text.specs.declared.Draft.{Draft}
 use Rattle.text.specs.Words.{editionKey, taskKey, periodKey, budgetKey, rankKey, chainKey, limitKey, aNumber, knownName, newName}
@@ -162,7 +163,7 @@ atOpening w d = cond (eqb (w .class) editionKey) (wanting wantEdition d) (cond (
 
 -- A chain with no limit is under 1,000, the limit that an old sheet's chain has.
 unfoldable pub opened : Draft → Draft
-opened d = wanting wantLimit (withChain (record { entries = unused .entries; length = 0; limit = 1000 }) d)
+opened d = wanting wantLimit (withChain (record { entries = unused .entries; length = 0; limit = oldLimit }) d)
 
 -- `task` or `chain`
 unfoldable pub atMore : Word → Draft → Draft

@@ -18,7 +18,7 @@ use Rattle.sheet.specs.Fields.{Values, Kind, old, new, kindOf, chains, idle, va
 use Rattle.sheet.specs.Calls.{places, unused, RanksFit, taskBy, chainBy, sheetBy, cleared}
 use Rattle.sheet.specs.PlaceLaws.{length-places, places-taken, places-set, places-none}
 use Rattle.sheet.specs.SameLaws.{sheet-is}
-use Rattle.sheet.specs.StepLaws.{old-sheet, new-sheet}
+use Rattle.sheet.specs.StepLaws.{old-edition, new-edition}
 use Rattle.sheet.specs.Sound.{Within, Sound}
 use Rattle.text.specs.declared.Draft.{Draft}
 use Rattle.text.specs.Shown.{numeral, taskLine, joined, entryWord, limitWord, limitWords, chainWord, chainLine, newLine, chainCount, textOf}
@@ -193,7 +193,7 @@ read-new s e sound fit =
     v = value s
 
     is : kindOf v ≡ new
-    is = new-sheet s e
+    is = new-edition (s .edition) e
 
     within : Within new v
     within = subst (λ k. Within k v) is sound
@@ -225,7 +225,7 @@ read-old s e sound fit =
     v = value s
 
     is : kindOf v ≡ old
-    is = old-sheet s e
+    is = old-edition (s .edition) e
 
     within : Within old v
     within = subst (λ k. Within k v) is sound

@@ -339,9 +339,6 @@ const EDITION_REFUSED: u8 = 116;
 
 const CHAINS_REFUSED: u8 = 117;
 
-// The limit that an old sheet's chain has.
-const OLD_LIMIT: u32 = 1000;
-
 const SIZE: usize = 16384;
 
 const SPACE: u8 = 32;
@@ -735,7 +732,7 @@ fn begin_chain(d: Draft) -> Draft
     let c = Chain {
         entries: [0u8; 16],
         length: 0,
-        limit: OLD_LIMIT,
+        limit: sheet::OLD_LIMIT,
     };
     wants(puts_chain(d, c), WANT_LIMIT)
 }

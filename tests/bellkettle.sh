@@ -8,40 +8,7 @@ here=$(pwd -P)
 need script bsdutils
 need setpriv util-linux
 
-room=$(mktemp -d)
-trap 'rm -rf "$room"' EXIT
-trap 'exit 1' HUP INT TERM
-chmod 755 "$room"
-mkdir -m 1777 "$room/tmp"
-export TMPDIR="$room/tmp"
-tried=0
-
-wrong() {
-    echo "tests/bellkettle.sh: $what: $*"
-    printf 'status %s, standard output:\n' "$status" && cat "$room/out"
-    echo 'standard error:' && cat "$room/err"
-    exit 1
-}
-
-try() { # WHAT COMMAND..: its output, messages and status are kept
-    what=$1 status=0
-    shift
-    "$@" >"$room/out" 2>"$room/err" || status=$?
-    tried=$((tried + 1))
-}
-ends() { [ "$status" -eq "$1" ] || wrong "status $1 expected"; }
-prints() { cmp -s "$room/out" "$1" || wrong "the output of $1 expected"; }
-prints_nothing() { [ ! -s "$room/out" ] || wrong 'no output expected'; }
-says() { grep -q -- "$1" "$room/err" || wrong "the message '$1' expected"; }
-says_nothing() { [ ! -s "$room/err" ] || wrong 'no message expected'; }
-refuses_use() { # MESSAGE
-    ends 2 && prints_nothing && says "^bellkettle: $1" && says "'bellkettle help"
-}
-fails() { # MESSAGE: one line that begins so
-    ends 3 && prints_nothing && says "^bellkettle: $1"
-    [ "$(wc -l <"$room/err")" -eq 1 ] || wrong 'one line expected'
-}
-leaves_nothing() { [ -z "$(ls -A "$TMPDIR")" ] || wrong "left behind: $(ls -A "$TMPDIR")"; }
+. tests/uses.sh
 
 # What is explained
 
@@ -197,7 +164,7 @@ cp "$room/err" "$room/unconverted"
 { od -An -v -tx1 samples/lone-edition-2.sheet | tr -d '\n' | tr a-f A-F | sed 's/^ //' && echo; } >"$room/bytes"
 try 'the sheet whose bound README prints' ./bellkettle report samples/odd.sheet
 cat samples/radio.report samples/suite.report samples/odd.bound "$room/out" "$room/err" "$room/unconverted" "$room/bytes" | while read -r line; do
-    grep -qxF "    $line" README.md || wrong "README.md expected to print: $line"
+    grep -qxF "    $line" README.md docs/FORMAT.md || wrong "README.md or docs/FORMAT.md expected to print: $line"
 done
 
 # Two sheets
@@ -225,13 +192,13 @@ cat "$room/applies" "$room/out" "$room/err" | while read -r line; do
     grep -qxF "    $line" README.md || wrong "README.md expected to say: $line"
 done
 
-# README's sheet that is mended: its bytes before and after, what is printed of it and what is said.
-try 'the sheet that README mends' ./bellkettle report samples/refused-4-mistyped.sheet
+# The sheet that docs/FORMAT.md mends: its bytes before and after, what is printed of it and what is said.
+try 'the sheet that docs/FORMAT.md mends' ./bellkettle report samples/refused-4-mistyped.sheet
 for sheet in refused-4-mistyped radio; do
     od -An -v -tx1 "samples/$sheet.sheet" | tr -d '\n' | tr a-f A-F | sed 's/^ //'
     echo
 done | cat - "$room/out" "$room/err" | while read -r line; do
-    grep -qxF "    $line" README.md || wrong "README.md expected to say: $line"
+    grep -qxF "    $line" docs/FORMAT.md || wrong "docs/FORMAT.md expected to say: $line"
 done
 
 # Something outside went wrong
@@ -443,7 +410,8 @@ fails "$tree/target/bin/report: this program did not answer ("
 leaves_nothing
 
 # Packages are installed for the gate and the tests, by nothing else.
-for script in bellkettle tools/kit.sh tools/program.sh tools/run tools/commands/* bench/run; do
+for script in bellkettle tools/*.sh tools/run tools/commands/* bench/run; do
+    [ "$script" != tools/packages.sh ] || continue
     ! grep 'apt-get\|packages\.sh' "$script" || { echo "tests/bellkettle.sh: $script installs packages" && exit 1; }
 done
 

@@ -1,6 +1,6 @@
 #!/bin/sh
-# The compiled programs report, bound and convert on every sample sheet, on a long input, and on an input that comes byte by byte; compare on
-# every pair that is stored.
+# The compiled programs report, bound, convert, pack and show on every sample, on a long input, and on an input that comes byte by byte;
+# compare on every pair that is stored.
 set -eu
 cd "$(dirname "$0")/.."
 room=$(mktemp -d)
@@ -92,6 +92,29 @@ for sheet in lone radio; do
     converts 2 samples/$sheet.sheet samples/$sheet-edition-2.sheet
     converts 1 samples/$sheet-edition-2.sheet samples/$sheet.sheet
 done
+# A text beside each sheet that is well formed: it is packed to the sheet, has its report and its bound, and what is shown of the sheet is
+# packed to it again; the texts that have no names of their own are what is shown.
+for sheet in samples/*.sheet; do
+    text=${sheet%.sheet}.txt
+    name="text $sheet"
+    run text "$sheet"
+    if [ ! -e "$text" ]; then
+        [ "$status" -eq 1 ] && [ ! -s "$room/got" ] && [ "$(head -n 1 "$room/said")" = "$(cat "${sheet%.sheet}.report")" ] || wrong "status 1 and report's refusal expected"
+        echo "$name" >>"$room/tried"
+        continue
+    fi
+    [ "$status" -eq 0 ] && [ ! -s "$room/said" ] || wrong 'status 0 and a text expected'
+    cp "$room/got" "$room/shown"
+    grep -q '^#' "$text" || cmp -s "$room/shown" "$text" || wrong "the lines of $text expected"
+    for typed in "$text" "$room/shown"; do
+        name="sheet $typed"
+        run sheet "$typed"
+        [ "$status" -eq 0 ] && cmp -s "$room/got" "$sheet" && [ ! -s "$room/said" ] || wrong "status 0 and the bytes of $sheet expected"
+        echo "$name" >>"$room/tried"
+    done
+    for command in report bound; do expect $command "$text" "${sheet%.sheet}" "$text"; done
+done
+
 for sheet in suite suite-of-eight radio-own-limit refused-10-suite refused-15-suite; do stays 1 samples/$sheet.sheet 'refused 18'; done
 
 for expected in samples/*.compare; do
@@ -105,4 +128,4 @@ for expected in samples/*.compare; do
     esac
 done
 
-echo "report, bound, convert, compare: $(wc -l <"$room/tried") inputs as the model says"
+echo "report, bound, convert, compare, sheet, text: $(wc -l <"$room/tried") inputs as the model says"

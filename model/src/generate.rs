@@ -242,7 +242,8 @@ fn any_sheet(r: &mut Random) -> Memory {
     s
 }
 
-fn handed_as_bytes(r: &mut Random) -> Vec<u8> {
+/// The bytes of any sheet, some of them damaged.
+pub fn handed_as_bytes(r: &mut Random) -> Vec<u8> {
     let s = any_sheet(r);
     let mut bytes = match r.between(0, 29) {
         0 => packed(&marked_bits(r.pick(&[0, 1, 3, 15]), &s)),

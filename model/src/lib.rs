@@ -14,6 +14,8 @@ pub mod report;
 pub mod schedule;
 pub mod sheet;
 pub mod telltale;
+pub mod text;
+pub mod texts;
 pub mod vectors;
 
 /// A number of document 01's table or of document 02. 1 to 9 come with the bit at which the judged field begins, 15 with the late task.

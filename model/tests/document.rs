@@ -248,9 +248,9 @@ fn bits_after_the_last_field() {
     }
 }
 
-/// Where a table of README.md says that a field begins, with the letters as given.
+/// Where a table of docs/FORMAT.md says that a field begins, with the letters as given.
 fn place_in(table: &str, field: &str, letters: &[(&str, usize)]) -> usize {
-    let page = include_str!("../../README.md");
+    let page = include_str!("../../docs/FORMAT.md");
     let (_, section) = page.split_once(&format!("\n| {table} | begins at bit |")).expect("the table is there");
     let row = section.lines().find(|line| line.starts_with(&format!("| {field} | "))).expect(field);
     let factor = |text: &str| match letters.iter().find(|(letter, _)| *letter == text) {
@@ -263,7 +263,7 @@ fn place_in(table: &str, field: &str, letters: &[(&str, usize)]) -> usize {
 
 /// The places of the second edition: chains are as long as they can be, so each takes 27 + 4·n bits.
 #[test]
-fn readme_says_the_same_places_in_edition_2() {
+fn the_page_says_the_same_places_in_edition_2() {
     let place = |field, letters: &[(&str, usize)]| place_in("field in edition 2", field, letters);
     assert_eq!([0, 5, 9], ["mark", "edition", "number of tasks n"].map(|field| place(field, &[])));
     for i in 0..16 {
@@ -287,19 +287,19 @@ fn readme_says_the_same_places_in_edition_2() {
 }
 
 #[test]
-fn readme_says_the_same_places() {
-    let place_in_readme = |field, letters: &[(&str, usize)]| place_in("field", field, letters);
-    assert_eq!(0, place_in_readme("number of tasks n", &[]));
+fn the_page_says_the_same_places() {
+    let place_in_page = |field, letters: &[(&str, usize)]| place_in("field", field, letters);
+    assert_eq!(0, place_in_page("number of tasks n", &[]));
     for i in 0..16 {
-        assert_eq!(5 + 42 * i, place_in_readme("period T of task i", &[("i", i)]));
-        assert_eq!(22 + 42 * i, place_in_readme("budget C of task i", &[("i", i)]));
-        assert_eq!(39 + 42 * i, place_in_readme("rank of task i", &[("i", i)]));
+        assert_eq!(5 + 42 * i, place_in_page("period T of task i", &[("i", i)]));
+        assert_eq!(22 + 42 * i, place_in_page("budget C of task i", &[("i", i)]));
+        assert_eq!(39 + 42 * i, place_in_page("rank of task i", &[("i", i)]));
     }
     for n in 1..=16 {
-        assert_eq!(5 + 42 * n, place_in_readme("chain length m", &[("n", n)]));
+        assert_eq!(5 + 42 * n, place_in_page("chain length m", &[("n", n)]));
         for j in 0..n {
-            assert_eq!(10 + 42 * n + 4 * j, place_in_readme("chain entry j", &[("n", n), ("j", j)]));
-            assert_eq!(14 + 42 * n + 4 * j, place_in_readme("the bits that fill the last byte", &[("n", n), ("m", j + 1)]));
+            assert_eq!(10 + 42 * n + 4 * j, place_in_page("chain entry j", &[("n", n), ("j", j)]));
+            assert_eq!(14 + 42 * n + 4 * j, place_in_page("the bits that fill the last byte", &[("n", n), ("m", j + 1)]));
         }
     }
 }

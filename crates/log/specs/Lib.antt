@@ -2,7 +2,11 @@
 pub mod Events
 pub mod Format
 pub mod Promises
--- The laws of a log that is judged fine.
+-- The laws of a log that is judged fine, and of the numbers of its refusals.
 pub mod FormatLaws
--- The results: one answer for each input.
+pub mod NumberLaws
+-- The results: times across the rollover, what is written is read back, and one answer for each input.
+pub mod Rollover
+pub mod Written
+pub mod RoundTrip
 pub mod Unique

@@ -21,20 +21,20 @@ use Rattle.theory.specs.Analysis.Paths.{path-unique, path-exists}
 use Rattle.log.specs.Events.{Event, start, finish, time}
 use Rattle.night.specs.declared.answer.Longest.{Longest}
 use Rattle.night.specs.declared.answer.Longest.the-variants.{Nothing, Delay}
-use Rattle.night.specs.Agreement.{Begins, Logged}
+use Rattle.night.specs.Agreement.{Begins, Logged, place}
 use Rattle.night.specs.Pass.{State, fresh, from, on}
 use Rattle.night.specs.PassLaws.{busy-task, Fits, opening-least, opening-most}
 use Rattle.night.specs.Exact.{fits-fresh}
 use Rattle.night.specs.StepLaws.{next-taken, begun, Starting, Finishing, step-starting, step-finishing, next-turn}
-use Rattle.night.specs.Follow.{longer, place, stands, Readings, unread, ready, follow, followed, paths}
+use Rattle.night.specs.Follow.{longer, stands, Readings, unread, ready, follow, followed, paths}
 
-same-bound : (a b : ℕ) → ((k : ℕ) → (k < a) ↔ (k < b)) → a ≡ b
+pub same-bound : (a b : ℕ) → ((k : ℕ) → (k < a) ↔ (k < b)) → a ≡ b
 same-bound a b h = let no : ¬ (b < a) = λ l. omega (arith, h b .0 l) in let on : ¬ (a < b) = λ l. omega (arith, h a .1 l) in omega arith
 
 -- Of the paths of jobs 0 .. n - 1 the longest, with the smallest job that has it; there is none of no path.
-abbrev pub IsLongest : List Task → ℕ → List ℕ → Demands → Run → ℕ → Longest → Type 0
-IsLongest ts p rest d run n Nothing = n ≡ 0
-IsLongest ts p rest d run n (Delay most first) =
+abbrev pub LongestOf : List Task → ℕ → List ℕ → Demands → Run → ℕ → Longest → Type 0
+LongestOf ts p rest d run n Nothing = n ≡ 0
+LongestOf ts p rest d run n (Delay most first) =
     (first < n) × PathEnds d run p rest first (release ts p first + most)
     × ((k f : ℕ) → k < n → PathEnds d run p rest k f → (f ≤ release ts p k + most) × (f ≡ release ts p k + most → first ≤ k))
 
@@ -164,7 +164,7 @@ module _ {ts : List Task} (ok : Accepted ts) (p : ℕ) (rest : List ℕ) (chain 
           ap (d (at q)) (g .ended-same (at q)),
         ) in omega arith
 
-    tracks-start : (j : ℕ) (a : Readings) → Starting s s′ j → Starts d run j (s .ended j) u → Tracks s a → Tracks s′ (follow ts p rest a (start j u))
+    tracks-start : (j : ℕ) (a : Readings) → Starting s s′ j → Starts d run j (s .ended j) u → Tracks s a → Tracks s′ (follow (period ts p) p rest a (start j u))
     unfolding follow job
     tracks-start j a g x t = record { read-is = λ q k l. read q k l (ℕ-discrete (at q) j); written-is = λ q k l. rw (g .ended-same (at q)) (t .written-is q k l) }
       where
@@ -184,7 +184,7 @@ module _ {ts : List Task} (ok : Accepted ts) (p : ℕ) (rest : List ℕ) (chain 
         read q k l (yes e) = rw (le-leb q (length rest) l, eq-eqb (at q) j e) (here q k l e)
         read q k l (no e) = rw (le-leb q (length rest) l, ne-eqb (at q) j e, g .begun-same (at q) e) (t .read-is q k l)
 
-  tracks-finish : (s s′ : State) (j u : ℕ) (a : Readings) → Finishing s s′ j → Tracks s a → Tracks s′ (follow ts p rest a (finish j u))
+  tracks-finish : (s s′ : State) (j u : ℕ) (a : Readings) → Finishing s s′ j → Tracks s a → Tracks s′ (follow (period ts p) p rest a (finish j u))
   unfolding follow
   tracks-finish s s′ j u a g t = record { read-is = λ q k l. rw (g .begun-same (at q)) (t .read-is q k l); written-is = λ q k l. written q k l (ℕ-discrete (at q) j) }
     where
@@ -222,8 +222,8 @@ module _ {ts : List Task} (ok : Accepted ts) (p : ℕ) (rest : List ℕ) (chain 
     arrives-at : (k f : ℕ) → a .writes end ≤ k → k < a .reads end → PathEnds d run p rest k f → f ≡ u
     arrives-at k f l m y = path-unique d run p rest k f u y (arrives k l m)
 
-    longest-finish : a .writes end < a .reads end → IsLongest ts p rest d run (a .writes end) (a .longest)
-        → IsLongest ts p rest d run (a .reads end) (longer (a .longest) (u - release ts p (a .writes end)) (a .writes end))
+    longest-finish : a .writes end < a .reads end → LongestOf ts p rest d run (a .writes end) (a .longest)
+        → LongestOf ts p rest d run (a .reads end) (longer (a .longest) (u - release ts p (a .writes end)) (a .writes end))
     longest-finish some b = go (a .longest) b
       where
         n : ℕ
@@ -239,7 +239,7 @@ module _ {ts : List Task} (ok : Accepted ts) (p : ℕ) (rest : List ℕ) (chain 
         now : (k f : ℕ) → n ≤ k → k < a .reads end → PathEnds d run p rest k f → f ≤ release ts p k + delay
         now k f l m y = omega (arith, whole, arrives-at k f l m y, mul-le-mul-right (period ts p) l)
 
-        newly : ((k f : ℕ) → k < n → PathEnds d run p rest k f → f < release ts p k + delay) → IsLongest ts p rest d run (a .reads end) (Delay delay n)
+        newly : ((k f : ℕ) → k < n → PathEnds d run p rest k f → f < release ts p k + delay) → LongestOf ts p rest d run (a .reads end) (Delay delay n)
         newly before = (some, subst (PathEnds d run p rest n) whole (arrives n (le-refl _) some), each)
           where
             each : (k f : ℕ) → k < a .reads end → PathEnds d run p rest k f → (f ≤ release ts p k + delay) × (f ≡ release ts p k + delay → n ≤ k)
@@ -249,11 +249,11 @@ module _ {ts : List Task} (ok : Accepted ts) (p : ℕ) (rest : List ℕ) (chain 
                 pick (yes l) = (omega (arith, before k f l y), λ e. absurd (omega (arith, before k f l y)))
                 pick (no l) = (now k f (omega arith) m y, λ e. omega arith)
 
-        go : (x : Longest) → IsLongest ts p rest d run (a .writes end) x → IsLongest ts p rest d run (a .reads end) (longer x (u - release ts p (a .writes end)) (a .writes end))
+        go : (x : Longest) → LongestOf ts p rest d run (a .writes end) x → LongestOf ts p rest d run (a .reads end) (longer x (u - release ts p (a .writes end)) (a .writes end))
         go Nothing h = newly (λ k f l y. absurd (omega (arith, h)))
         go (Delay most first) h = pick (ltb most delay) refl
           where
-            pick : (b : Bool) → ltb most delay ≡ b → IsLongest ts p rest d run (a .reads end) (cond b (Delay delay n) (Delay most first))
+            pick : (b : Bool) → ltb most delay ≡ b → LongestOf ts p rest d run (a .reads end) (cond b (Delay delay n) (Delay most first))
             pick true e = newly (λ k f l y. omega (arith, h .2 k f l y .0, ltb-true most delay e))
             pick false e = (omega (arith, h .0, some), h .1, each)
               where
@@ -266,29 +266,29 @@ module _ {ts : List Task} (ok : Accepted ts) (p : ℕ) (rest : List ℕ) (chain 
 
   -- The longest after a finish, of the last task or of another.
   longest-kept : (s s′ : State) (j u : ℕ) (a : Readings) → Finishing s s′ j → Finishes d run j (s .ended j) u → Tracks s a
-      → IsLongest ts p rest d run (paths rest a) (a .longest)
-      → IsLongest ts p rest d run (paths rest (follow ts p rest a (finish j u))) (follow ts p rest a (finish j u) .longest)
+      → LongestOf ts p rest d run (paths rest a) (a .longest)
+      → LongestOf ts p rest d run (paths rest (follow (period ts p) p rest a (finish j u))) (follow (period ts p) p rest a (finish j u) .longest)
   unfolding follow
   longest-kept s s′ j u a g x t b = go (ℕ-discrete (at end) j)
     where
       more : a .writes end ≤ a .reads end
       more = let no : ¬ (a .reads end < a .writes end) = λ l. omega (arith, t .read-is end (a .reads end) (le-refl _) .1 (omega (arith, t .written-is end (a .reads end) (le-refl _) .0 l))) in omega arith
 
-      go : Dec (at end ≡ j) → IsLongest ts p rest d run (cond (stands p rest j end) (a .reads end) (a .writes end))
+      go : Dec (at end ≡ j) → LongestOf ts p rest d run (cond (stands p rest j end) (a .reads end) (a .writes end))
           (cond (stands p rest j end && ltb (a .writes end) (a .reads end)) (longer (a .longest) (u - release ts p (a .writes end)) (a .writes end)) (a .longest))
       go (no e) = rw (le-leb end end (le-refl _), ne-eqb (at end) j e) b
       go (yes e) = rw (le-leb end end (le-refl _), eq-eqb (at end) j e) (pick (decLt (a .writes end) (a .reads end)))
         where
-          pick : Dec (a .writes end < a .reads end) → IsLongest ts p rest d run (a .reads end)
+          pick : Dec (a .writes end < a .reads end) → LongestOf ts p rest d run (a .reads end)
               (cond (ltb (a .writes end) (a .reads end)) (longer (a .longest) (u - release ts p (a .writes end)) (a .writes end)) (a .longest))
           pick (yes l) = rw (lt-ltb (a .writes end) (a .reads end) l) (longest-finish s s′ j u a g x t e l b)
-          pick (no l) = rw (le-ltb (a .writes end) (a .reads end) (omega arith)) (subst (λ n. IsLongest ts p rest d run n (a .longest)) same b)
+          pick (no l) = rw (le-ltb (a .writes end) (a .reads end) (omega arith)) (subst (λ n. LongestOf ts p rest d run n (a .longest)) same b)
             where
               same : a .writes end ≡ a .reads end
               same = omega (arith, more)
 
-  longest-start : (j u : ℕ) (a : Readings) → IsLongest ts p rest d run (paths rest a) (a .longest)
-      → IsLongest ts p rest d run (paths rest (follow ts p rest a (start j u))) (follow ts p rest a (start j u) .longest)
+  longest-start : (j u : ℕ) (a : Readings) → LongestOf ts p rest d run (paths rest a) (a .longest)
+      → LongestOf ts p rest d run (paths rest (follow (period ts p) p rest a (start j u))) (follow (period ts p) p rest a (start j u) .longest)
   unfolding follow
   longest-start j u a b = b
 
@@ -296,7 +296,7 @@ module _ {ts : List Task} (ok : Accepted ts) (p : ℕ) (rest : List ℕ) (chain 
   record Followed (s : State) (es : List Event) (a : Readings) : Type 0 where
     to : State
     tracks : Tracks to a
-    longest-is : IsLongest ts p rest d run (paths rest a) (a .longest)
+    longest-is : LongestOf ts p rest d run (paths rest a) (a .longest)
     logged : (i k : ℕ) → k < to .ended i → (k < s .ended i) ⊎ ((f : ℕ) × Finishes d run i k f × Logged (finish i f) es)
     passed : (i f : ℕ) → Logged (finish i f) es → (k : ℕ) × (k < to .ended i) × Finishes d run i k f
     grown : (i : ℕ) → s .ended i ≤ to .ended i
@@ -351,7 +351,7 @@ module _ {ts : List Task} (ok : Accepted ts) (p : ℕ) (rest : List ℕ) (chain 
       back i f (inr m) = r .passed i f m
 
   followed-is : (es : List Event) (s : State) (a : Readings) → Fits ts d run s → Begins d run (from s) es → Tracks s a
-      → IsLongest ts p rest d run (paths rest a) (a .longest) → Followed s es (followed ts p rest es a)
+      → LongestOf ts p rest d run (paths rest a) (a .longest) → Followed s es (followed (period ts p) p rest es a)
   unfolding followed
   followed-is [] s a f b t l = record { to = s; tracks = t; longest-is = l; logged = λ i k h. inl h; passed = λ i f h. absurd h; grown = λ i. le-refl _ }
   followed-is (start j u ∷ es) s a f b t l =
@@ -360,31 +360,31 @@ module _ {ts : List Task} (ok : Accepted ts) (p : ℕ) (rest : List ℕ) (chain 
       let x = next-turn ts c s (y .0) (start j u) (y .2) (b .0 .happens) (y .1) in
       let soon : s .tick ≤ u = omega (arith, b .0 .from-on, opening-least (s .tick) (s .last)) in
       let later : u ≤ y .0 .tick = omega (arith, y .3, opening-most (y .0 .tick) (y .0 .last)) in
-      logged-start s (y .0) j u es (followed ts p rest es (follow ts p rest a (start j u))) g
-      (followed-is es (y .0) (follow ts p rest a (start j u)) (y .2) (subst (λ v. Begins d run v es) (sym (y .3)) (b .1))
+      logged-start s (y .0) j u es (followed (period ts p) p rest es (follow (period ts p) p rest a (start j u))) g
+      (followed-is es (y .0) (follow (period ts p) p rest a (start j u)) (y .2) (subst (λ v. Begins d run v es) (sym (y .3)) (b .1))
       (tracks-start s (y .0) f (y .2) u soon later j a g x t) (longest-start j u a l))
   followed-is (finish j u ∷ es) s a f b t l =
       let y = next-taken (ok .proper) c w s f (finish j u) (b .0) in
       let g = step-finishing ts d s (y .0) j u (f .room) (y .1) in
       let x = next-turn ts c s (y .0) (finish j u) (y .2) (b .0 .happens) (y .1) in
-      logged-finish s (y .0) j u es (followed ts p rest es (follow ts p rest a (finish j u))) g x
-      (followed-is es (y .0) (follow ts p rest a (finish j u)) (y .2) (subst (λ v. Begins d run v es) (sym (y .3)) (b .1))
+      logged-finish s (y .0) j u es (followed (period ts p) p rest es (follow (period ts p) p rest a (finish j u))) g x
+      (followed-is es (y .0) (follow (period ts p) p rest a (finish j u)) (y .2) (subst (λ v. Begins d run v es) (sym (y .3)) (b .1))
       (tracks-finish s (y .0) j u a g t) (longest-kept s (y .0) j u a g x t l))
 
   -- From the origin on.
-  all-followed : (es : List Event) → Begins d run 1 es → Followed fresh es (followed ts p rest es unread)
+  all-followed : (es : List Event) → Begins d run 1 es → Followed fresh es (followed (period ts p) p rest es unread)
   all-followed es b = followed-is es fresh unread (fits-fresh w) b
       (record { read-is = λ q k l. (λ z. absurd (omega arith), λ z. absurd (omega arith)); written-is = λ q k l. (λ z. absurd (omega arith), λ z. absurd (omega arith)) }) refl
 
   -- A path is counted exactly if its end is logged,
   pub paths-logged : (es : List Event) → Begins d run 1 es → (k : ℕ)
-      → (k < paths rest (followed ts p rest es unread)) ↔ ((f : ℕ) × PathEnds d run p rest k f × Logged (finish (place p rest (length rest)) f) es)
+      → (k < paths rest (followed (period ts p) p rest es unread)) ↔ ((f : ℕ) × PathEnds d run p rest k f × Logged (finish (place p rest (length rest)) f) es)
   paths-logged es b k = (
     λ h. ends (r .logged (at end) (job end k) (r .tracks .written-is end k (le-refl _) .0 h)),
     λ (f, x, m). let y = r .passed (at end) f m in r .tracks .written-is end k (le-refl _) .1 (subst (λ j. j < r .to .ended (at end)) (same-job (path-ends k f x) (y .2)) (y .1)),
   )
     where
-      r : Followed fresh es (followed ts p rest es unread)
+      r : Followed fresh es (followed (period ts p) p rest es unread)
       r = all-followed es b
 
       ends : (job end k < 0) ⊎ ((f : ℕ) × Finishes d run (at end) (job end k) f × Logged (finish (at end) f) es) → (f : ℕ) × PathEnds d run p rest k f × Logged (finish (at end) f) es
@@ -399,5 +399,5 @@ module _ {ts : List Task} (ok : Accepted ts) (p : ℕ) (rest : List ℕ) (chain 
           less m n l x y = omega (arith, x .done-by, y .done-by, need-grows d (at end) (suc m) n l, need-step d (at end) n, w .least-one (at end) n (place-known ts p rest chain end (le-refl _)))
 
   -- and the longest is that of those counted.
-  pub longest-logged : (es : List Event) → Begins d run 1 es → IsLongest ts p rest d run (paths rest (followed ts p rest es unread)) (followed ts p rest es unread .longest)
+  pub longest-logged : (es : List Event) → Begins d run 1 es → LongestOf ts p rest d run (paths rest (followed (period ts p) p rest es unread)) (followed (period ts p) p rest es unread .longest)
   longest-logged es b = all-followed es b .longest-is

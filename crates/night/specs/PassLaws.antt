@@ -77,7 +77,7 @@ Chosen ts K t idle = (j : ℕ) → j < length ts → t < release ts j (K j)
 Chosen ts K t (busy i) = (i < length ts) × (release ts i (K i) ≤ t) × ((j : ℕ) → j < length ts → release ts j (K j) ≤ t → rank ts j ≤ rank ts i)
 
 pub turn-chosen : (ts : List Task) (K : ℕ → ℕ) (t : ℕ) → Chosen ts K t (turn ts K t)
-unfolding turn IsGreatest
+unfolding turn
 turn-chosen ts K t = go (turn ts K t) (greatest-is (rank ts) (λ j. leb (release ts j (K j)) t) (length ts))
   where
     go : (x : Slot) → IsGreatest (rank ts) (λ j. leb (release ts j (K j)) t) (length ts) x → Chosen ts K t x

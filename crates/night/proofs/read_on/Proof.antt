@@ -1,0 +1,66 @@
+use mathlib.Core.Path.{sym, subst}
+use Prim.Native.Nat.{_+_}
+use mathlib.Core.Logic.{⊎-elim}
+use native.Mathlib.Omega.{arith}
+use Prim.Native.Nat.{_-_}
+use lib.ListN.{length}
+use Rattle.night.specs.Follow.{ready}
+use Rattle.night.specs.Conditions.{held}
+use Rattle.night.proofs.Places.{Swept, swept-start, swept-hit, swept-miss, swept-whole}
+use borrow.Author.Needs.{needs}
+use Rattle.night.proofs.read_on.Statement.{statement}
+use Rattle.night.proofs.read_on.Tie as tie
+
+abbrev Inv-loop : tie.InvT-loop
+Inv-loop chain task writes reads₀ q₀ reads q = Swept chain task (ready (held writes)) reads₀ reads q
+
+abbrev μ-loop : tie.MeasureT-loop
+μ-loop chain task writes reads₀ q₀ reads q = length chain - q
+
+loop-holds : tie.Need-loop-holds Inv-loop μ-loop
+loop-holds c = let a = c .before in swept-start (a .args .chain .now) (a .pre .0) (a .args .task) (ready (held (a .args .writes .now))) (a .args .reads .now) (a .pre .1 .1)
+
+shared-slice-read-if1 : tie.Need-shared-slice-read-if1 Inv-loop μ-loop
+shared-slice-read-if1 c = search needs
+
+ready-at-requires : tie.Need-ready-at-requires Inv-loop μ-loop
+ready-at-requires c κs = search needs
+
+mul-reads : tie.Need-mul-reads Inv-loop μ-loop
+mul-reads c = search needs
+
+element-write-reads : tie.Need-element-write-reads Inv-loop μ-loop
+element-write-reads c = search needs
+
+add-q : tie.Need-add-q Inv-loop μ-loop
+add-q c = search needs
+
+loop-less : tie.Need-loop-less Inv-loop μ-loop
+loop-less c = search needs
+
+loop-again : tie.Need-loop-again Inv-loop μ-loop
+loop-again c = let a = c .before .before .before .before .before in
+    let l = c .before .before .before .loop in
+    ⊎-elim
+    (λ w. subst (λ xs. Swept (a .args .chain .now) (a .args .task) (ready (held (a .args .writes .now))) (a .args .reads .now) xs (l .q + 1)) (sym (w .2)) (swept-hit (a .args .chain .now) (a .pre .0) (a .args .task) (ready (held (a .args .writes .now))) (a .args .reads .now) (l .reads) (l .q) (l .inv) (omega arith) _ (w .0 .taken) (w .1 .ensures)))
+    (λ w. subst (λ xs. Swept (a .args .chain .now) (a .args .task) (ready (held (a .args .writes .now))) (a .args .reads .now) xs (l .q + 1)) (sym (w .1)) (swept-miss (a .args .chain .now) (a .pre .0) (a .args .task) (ready (held (a .args .writes .now))) (a .args .reads .now) (l .reads) (l .q) (l .inv) (omega arith) (w .0 .left)))
+    (c .if1 .came)
+
+returns : tie.Need-returns Inv-loop μ-loop
+returns c = let a = c .before .before .before in let l = c .before .loop in swept-whole (a .args .chain .now) (a .pre .0) (a .args .task) (ready (held (a .args .writes .now))) (a .args .reads .now) (l .reads) (l .q) (l .inv) (omega arith)
+
+pub read-on-spec : {M : Type 1} → statement M
+read-on-spec =
+    tie.close
+    (tie.spec
+    Inv-loop
+    μ-loop
+    loop-holds
+    shared-slice-read-if1
+    ready-at-requires
+    mul-reads
+    element-write-reads
+    add-q
+    loop-less
+    loop-again
+    returns)

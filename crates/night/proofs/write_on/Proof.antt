@@ -1,0 +1,69 @@
+use mathlib.Core.Path.{refl, sym, subst}
+use Prim.Native.Nat.{_+_}
+use mathlib.Core.Logic.{⊎-elim}
+use native.Mathlib.Omega.{arith}
+use Prim.Native.Nat.{_-_}
+use lib.ListN.{length}
+use Rattle.night.specs.Conditions.{held}
+use Rattle.night.proofs.Places.{Swept, swept-start, swept-hit, swept-miss, swept-whole}
+use borrow.Author.Needs.{needs}
+use Rattle.night.proofs.write_on.Statement.{statement}
+use Rattle.night.proofs.write_on.Tie as tie
+
+abbrev Inv-loop : tie.InvT-loop
+Inv-loop chain task reads writes₀ q₀ writes q = Swept chain task (held reads) writes₀ writes q
+
+abbrev μ-loop : tie.MeasureT-loop
+μ-loop chain task reads writes₀ q₀ writes q = length chain - q
+
+loop-holds : tie.Need-loop-holds Inv-loop μ-loop
+loop-holds c = swept-start (c .args .chain .now) (c .pre .0) (c .args .task) (held (c .args .reads .now)) (c .args .writes .now) (c .pre .1 .1)
+
+shared-slice-read-if1 : tie.Need-shared-slice-read-if1 Inv-loop μ-loop
+shared-slice-read-if1 c = search needs
+
+mul-writes : tie.Need-mul-writes Inv-loop μ-loop
+mul-writes c = search needs
+
+element-copy-out-writes : tie.Need-element-copy-out-writes Inv-loop μ-loop
+element-copy-out-writes c = search needs
+
+mul-writes-2 : tie.Need-mul-writes-2 Inv-loop μ-loop
+mul-writes-2 c = search needs
+
+element-write-writes : tie.Need-element-write-writes Inv-loop μ-loop
+element-write-writes c = search needs
+
+add-q : tie.Need-add-q Inv-loop μ-loop
+add-q c = search needs
+
+loop-less : tie.Need-loop-less Inv-loop μ-loop
+loop-less c = search needs
+
+loop-again : tie.Need-loop-again Inv-loop μ-loop
+loop-again c = let a = c .before .before .before .before in
+    let l = c .before .before .before .loop in
+    ⊎-elim
+    (λ w. subst (λ xs. Swept (a .args .chain .now) (a .args .task) (held (a .args .reads .now)) (a .args .writes .now) xs (l .q + 1)) (sym (w .2)) (swept-hit (a .args .chain .now) (a .pre .0) (a .args .task) (held (a .args .reads .now)) (a .args .writes .now) (l .writes) (l .q) (l .inv) (omega arith) _ (w .0 .taken) refl))
+    (λ w. subst (λ xs. Swept (a .args .chain .now) (a .args .task) (held (a .args .reads .now)) (a .args .writes .now) xs (l .q + 1)) (sym (w .1)) (swept-miss (a .args .chain .now) (a .pre .0) (a .args .task) (held (a .args .reads .now)) (a .args .writes .now) (l .writes) (l .q) (l .inv) (omega arith) (w .0 .left)))
+    (c .if1 .came)
+
+returns : tie.Need-returns Inv-loop μ-loop
+returns c = let a = c .before .before in let l = c .before .loop in swept-whole (a .args .chain .now) (a .pre .0) (a .args .task) (held (a .args .reads .now)) (a .args .writes .now) (l .writes) (l .q) (l .inv) (omega arith)
+
+pub write-on-spec : {M : Type 1} → statement M
+write-on-spec =
+    tie.close
+    (tie.spec
+    Inv-loop
+    μ-loop
+    loop-holds
+    shared-slice-read-if1
+    mul-writes
+    element-copy-out-writes
+    mul-writes-2
+    element-write-writes
+    add-q
+    loop-less
+    loop-again
+    returns)

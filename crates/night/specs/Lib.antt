@@ -14,6 +14,7 @@ pub mod FollowLaws
 pub mod Conditions
 -- The laws of the call.
 pub mod CallLaws
--- The results: the break, the paths and the figure, and one answer for each input.
+-- The results: the break, the paths and the figure; one answer for each input; and what an answer of the call says.
 pub mod Results
 pub mod Unique
+pub mod CallResults

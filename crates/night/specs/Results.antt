@@ -52,13 +52,13 @@ module _ {ts : List Task} (good : Proper ts) (es : List Event) where
       let low = agrees-upto good es r (omega arith) .0 (x .1) in
       let high : ¬ (suc r ≤ taken ts es fresh) = λ h. x .2 (agrees-upto good es (suc r) l .1 h) in omega arith
 
-  breaks-unique : (b c : Break) → Breaks ts es b → Breaks ts es c → b ≡ c
+  pub breaks-unique : (b c : Break) → Breaks ts es b → Breaks ts es c → b ≡ c
   breaks-unique Nowhere Nowhere x y = refl
   breaks-unique Nowhere (At r) x y = absurd (omega (arith, agrees-taken good es .0 x, at-taken r y, y .0))
   breaks-unique (At r) Nowhere x y = absurd (omega (arith, agrees-taken good es .0 y, at-taken r x, x .0))
   breaks-unique (At r) (At q) x y = ap At (at-taken r x ∙ sym (at-taken q y))
 
-before-agrees : {ts : List Task} (es : List Event) (b : Break) → Breaks ts es b → Agrees ts (beforeBreak es b)
+pub before-agrees : {ts : List Task} (es : List Event) (b : Break) → Breaks ts es b → Agrees ts (beforeBreak es b)
 before-agrees es Nowhere x = x
 before-agrees es (At r) x = x .1
 

@@ -1,7 +1,6 @@
 -- The judgement of a log field by field, and the loop over its records.
 use mathlib.Core.Path.{_≡_, refl, sym, ap, ap₂, _∙_, subst}
-use mathlib.Core.Logic.{_≢_}
-use mathlib.Core.Bool.{true, false, cond, not}
+use mathlib.Core.Bool.{true, cond}
 use mathlib.Core.List.{List, []}
 use Prim.Native.Nat.{ℕ, suc, _+_, _-_, _*_, _≤_, _<_}
 use native.Mathlib.Omega.{arith}

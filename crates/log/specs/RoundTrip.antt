@@ -5,13 +5,13 @@ use mathlib.Core.List.{List, [], _∷_, _++_}
 use Prim.Native.Nat.{ℕ, zero, suc, _+_, _*_, _%_, _^_, _≤_, _<_}
 use native.Mathlib.Nat.{mod-lt}
 use native.Mathlib.Omega.{arith}
-use lib.ListN.{length, getD, drop, length-append, List·getD-append}
+use lib.ListN.{length, getD, length-append, List·getD-append}
 use lib.Seq.{getD-append-add}
-use Rattle.bits.specs.Bits.{bits, unpack, number, bytesOf}
+use Rattle.bits.specs.Bits.{bits, unpack, number}
 use Rattle.bits.specs.Laws.{length-bits, number-same, number-bits}
 use Rattle.bits.specs.Bytes.{bitAt-bytesOf}
 use Rattle.log.specs.Events.{Event, start, finish, time}
-use Rattle.log.specs.Format.{originBits, countBits, indexBits, kindBits, counterBits, turn, begin, origin, count, task, kind, counter, timeBefore, timeAt, event, recordAt, recordsFrom, records}
+use Rattle.log.specs.Format.{originBits, countBits, indexBits, kindBits, counterBits, turn, begin, origin, count, task, kind, counter, timeAt, event, recordAt, recordsFrom, records}
 use Rattle.log.specs.Rollover.{true-times}
 use Rattle.log.specs.Written.{taskOf, kindOf, recordBits, recordsBits, written, recordIn, Writable}
 

@@ -1,7 +1,7 @@
 -- From what the loop finds to what is answered.
 use mathlib.Core.Path.{_≡_, refl, sym, ap, _∙_, subst}
 use mathlib.Core.Bool.{Bool, true, false, cond}
-use mathlib.Core.List.{List, [], _∷_}
+use mathlib.Core.List.{List, _∷_}
 use Prim.Native.Nat.{ℕ, zero, suc, _≤_, _<_}
 use native.Mathlib.Omega.{arith}
 use lib.Dec.{ltb}
@@ -27,7 +27,7 @@ use Rattle.night.specs.declared.Found.{Found}
 use Rattle.night.specs.declared.answer.Break.{Break}
 use Rattle.night.specs.declared.answer.Break.the-variants.{Nowhere, At}
 use Rattle.night.specs.Agreement.{beforeBreak, Breaks, Replays}
-use Rattle.night.specs.Pass.{fresh, taken}
+use Rattle.night.specs.Pass.{fresh}
 use Rattle.night.specs.Exact.{taken-most}
 use Rattle.night.specs.Follow.{unread, followed, paths}
 use Rattle.night.specs.Results.{nowhere-breaks, record-breaks, pass-replays}

@@ -4,7 +4,7 @@ use mathlib.Core.Bool.{cond}
 use mathlib.Core.List.{List}
 use Prim.Native.Nat.{ℕ, _+_, _*_, _≤_, _<_}
 use lib.Dec.{ltb}
-use lib.ListN.{length, getD, take}
+use lib.ListN.{length, getD}
 use Rattle.bits.specs.Bits.{listOf}
 use Rattle.theory.specs.declared.Task.{Task}
 use Rattle.theory.specs.Model.Schedule.{period, Slot, idle, busy}

@@ -4,16 +4,15 @@ use mathlib.Core.Path.{_≡_, refl, sym, ap, ap₂, _∙_, subst}
 use mathlib.Core.Logic.{_↔_}
 use mathlib.Core.List.{List}
 use Prim.Native.Nat.{ℕ, suc, _+_, _≤_, _<_}
-use native.Mathlib.Nat.{le-refl}
 use native.Mathlib.Omega.{arith}
 use lib.ListN.{length, take}
 use Rattle.theory.specs.declared.Task.{Task}
 use Rattle.theory.specs.Model.Schedule.{period, release, Proper}
 use Rattle.theory.specs.Model.Responses.{response, Accepted}
-use Rattle.theory.specs.Model.Chain.{Chain, sampling, PathEnds}
+use Rattle.theory.specs.Model.Chain.{Chain, sampling}
 use Rattle.theory.specs.Analysis.Paths.{path-unique}
 use Rattle.theory.specs.Results.Demand3.{no-schedule-exceeds}
-use Rattle.log.specs.Events.{Event, finish}
+use Rattle.log.specs.Events.{Event}
 use Rattle.night.specs.declared.answer.Longest.{Longest}
 use Rattle.night.specs.declared.answer.Longest.the-variants.{Nothing, Delay}
 use Rattle.night.specs.declared.answer.Break.{Break}

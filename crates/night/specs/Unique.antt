@@ -5,7 +5,7 @@ use Prim.Native.Nat.{ℕ}
 use lib.ListN.{length}
 use Rattle.theory.specs.Model.Schedule.{Proper}
 use Rattle.answers.specs.declared.Refusal.{Refusal}
-use Rattle.answers.specs.Answers.{Answer, given, refused, refusal}
+use Rattle.answers.specs.Answers.{Answer, given, refused}
 use Rattle.answers.specs.AnswerLaws.{refused-given, refusal-unique}
 use Rattle.sheet.specs.declared.Sheet.{Sheet}
 use Rattle.sheet.specs.Tasks.{tasksOf, chainOf, firstOf, restOf}

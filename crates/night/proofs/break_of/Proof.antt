@@ -3,7 +3,6 @@ use mathlib.Core.Path.{sym, ap}
 use mathlib.Core.Bool.{cond}
 use borrow.Author.Tests.{lt-ltb, le-ltb}
 use Rattle.night.specs.declared.answer.Break.the-variants.{Nowhere, At}
-use borrow.Author.Needs.{needs}
 use Rattle.night.proofs.break_of.Statement.{statement}
 use Rattle.night.proofs.break_of.Tie as tie
 

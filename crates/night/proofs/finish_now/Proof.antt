@@ -1,8 +1,8 @@
+-- What finishes is the job that ran in the tick before.
 use native.Mathlib.Omega.{arith}
 use Prim.Native.Nat.{_+_}
 use lib.ListN.{getD}
-use Rattle.night.proofs.Laws.{set-sixteen}
-use Rattle.night.proofs.Laws.{finish-breaks, finish-goes}
+use Rattle.night.proofs.Laws.{set-sixteen, finish-breaks, finish-goes}
 use borrow.Author.Needs.{needs}
 use Rattle.night.proofs.finish_now.Statement.{statement}
 use Rattle.night.proofs.finish_now.Tie as tie
@@ -10,36 +10,10 @@ use Rattle.night.proofs.finish_now.Tie as tie
 returns : tie.Need-returns
 returns c = let a = c .before in (finish-breaks (a .args .ended .now) (a .args .ran .now) (a .args .tick) (a .args .last) (a .args .task) (c .if1 .taken), (tt, a .pre .0, a .pre .1))
 
-mul-ended : tie.Need-mul-ended
-mul-ended c = search needs
-
-element-copy-out-ended : tie.Need-element-copy-out-ended
-element-copy-out-ended c = search needs
-
-add-ended : tie.Need-add-ended
-add-ended c = search needs
-
-element-write-ended : tie.Need-element-write-ended
-element-write-ended c = search needs
-
-mul-ran : tie.Need-mul-ran
-mul-ran c = search needs
-
-element-write-ran : tie.Need-element-write-ran
-element-write-ran c = search needs
-
 returns-2 : tie.Need-returns-2
 returns-2 c = let a = c .before .before in (finish-goes (a .args .ended .now) (a .args .ran .now) (a .args .tick) (a .args .last) (a .args .task) (a .pre .0) (a .pre .1) (a .pre .2) (c .before .if1 .left), (λ l. absurd (omega arith), set-sixteen (a .args .ended .now) (a .args .task) (getD (a .args .ended .now) (a .args .task) 0 + 1) (a .pre .0), set-sixteen (a .args .ran .now) (a .args .task) 0 (a .pre .1)))
 
 pub finish-now-spec : {M : Type 1} → statement M
 finish-now-spec =
     tie.close
-    (tie.spec
-    returns
-    mul-ended
-    element-copy-out-ended
-    add-ended
-    element-write-ended
-    mul-ran
-    element-write-ran
-    returns-2)
+    (tie.spec returns (λ c. search needs) (λ c. search needs) (λ c. search needs) (λ c. search needs) (λ c. search needs) (λ c. search needs) returns-2)

@@ -1,6 +1,6 @@
 -- Place by place the plan holds one task more.
 use mathlib.Core.Path.{refl, subst}
-use Prim.Native.Nat.{_-_, _≤_, _<_}
+use Prim.Native.Nat.{_-_, _≤_}
 use native.Mathlib.Omega.{arith}
 use Rattle.night.proofs.Plans.{PlanTo, plan-none, plan-more, plan-tasks}
 use borrow.Author.Needs.{needs}

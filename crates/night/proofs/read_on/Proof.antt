@@ -1,8 +1,8 @@
+-- Each turn settles one place: where the task stands it reads what is ready, elsewhere nothing changes.
 use mathlib.Core.Path.{sym, subst}
-use Prim.Native.Nat.{_+_}
+use Prim.Native.Nat.{_+_, _-_}
 use mathlib.Core.Logic.{⊎-elim}
 use native.Mathlib.Omega.{arith}
-use Prim.Native.Nat.{_-_}
 use lib.ListN.{length}
 use Rattle.night.specs.Follow.{ready}
 use Rattle.night.specs.Conditions.{held}
@@ -20,24 +20,6 @@ abbrev μ-loop : tie.MeasureT-loop
 loop-holds : tie.Need-loop-holds Inv-loop μ-loop
 loop-holds c = let a = c .before in swept-start (a .args .chain .now) (a .pre .0) (a .args .task) (ready (held (a .args .writes .now))) (a .args .reads .now) (a .pre .1 .1)
 
-shared-slice-read-if1 : tie.Need-shared-slice-read-if1 Inv-loop μ-loop
-shared-slice-read-if1 c = search needs
-
-ready-at-requires : tie.Need-ready-at-requires Inv-loop μ-loop
-ready-at-requires c κs = search needs
-
-mul-reads : tie.Need-mul-reads Inv-loop μ-loop
-mul-reads c = search needs
-
-element-write-reads : tie.Need-element-write-reads Inv-loop μ-loop
-element-write-reads c = search needs
-
-add-q : tie.Need-add-q Inv-loop μ-loop
-add-q c = search needs
-
-loop-less : tie.Need-loop-less Inv-loop μ-loop
-loop-less c = search needs
-
 loop-again : tie.Need-loop-again Inv-loop μ-loop
 loop-again c = let a = c .before .before .before .before .before in
     let l = c .before .before .before .loop in
@@ -52,15 +34,4 @@ returns c = let a = c .before .before .before in let l = c .before .loop in swep
 pub read-on-spec : {M : Type 1} → statement M
 read-on-spec =
     tie.close
-    (tie.spec
-    Inv-loop
-    μ-loop
-    loop-holds
-    shared-slice-read-if1
-    ready-at-requires
-    mul-reads
-    element-write-reads
-    add-q
-    loop-less
-    loop-again
-    returns)
+    (tie.spec Inv-loop μ-loop loop-holds (λ c. search needs) (λ c κs. search needs) (λ c. search needs) (λ c. search needs) (λ c. search needs) (λ c. search needs) loop-again returns)

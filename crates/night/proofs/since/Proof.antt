@@ -1,3 +1,4 @@
+-- The difference is taken in 64 bits, where the release is before the tick.
 use Prim.Native.Nat.{_^_, _-_}
 use native.Mathlib.Nat.{lt-of-le-of-lt, mul-le-mul}
 use native.Mathlib.Omega.{arith}
@@ -8,17 +9,5 @@ use Rattle.night.proofs.since.Tie as tie
 mul-release : tie.Need-mul-release
 mul-release c = record { fits = lt-of-le-of-lt (mul-le-mul {n₂ = 2 ^ 32 - 1} {m₂ = 2 ^ 32 - 1} (omega arith) (omega arith)) (omega arith) }
 
-sub-result : tie.Need-sub-result
-sub-result c = search needs
-
-cast-result : tie.Need-cast-result
-cast-result c = search needs
-
-returns : tie.Need-returns
-returns c = search needs
-
-returns-2 : tie.Need-returns-2
-returns-2 c = search needs
-
 pub since-spec : {M : Type 1} → statement M
-since-spec = tie.close (tie.spec mul-release sub-result cast-result returns returns-2)
+since-spec = tie.close (tie.spec mul-release (λ c. search needs) (λ c. search needs) (λ c. search needs) (λ c. search needs))

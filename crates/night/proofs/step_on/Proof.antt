@@ -1,21 +1,12 @@
-use Rattle.night.specs.Conditions.{stateOf}
+-- The wait up to the record, and then the record.
+use Rattle.night.specs.Conditions.{stateOf, tasksIn}
 use Rattle.night.proofs.Laws.{step-early, stepped-breaks, stepped-starts, stepped-finishes, last-known, known-none}
-use Rattle.night.specs.Conditions.{tasksIn}
 use borrow.Author.Needs.{needs}
 use Rattle.night.proofs.step_on.Statement.{statement}
 use Rattle.night.proofs.step_on.Tie as tie
 
 returns : tie.Need-returns
 returns c = let a = c .before in (step-early (tasksIn (a .args .plan .now) (a .args .count)) (stateOf (a .args .tick) (a .args .last) (a .args .ended .now) (a .args .ran .now)) (a .args .task) (a .args .kind) (a .args .at) (c .if1 .taken), (tt, a .pre .1 .0, a .pre .1 .1))
-
-wait-to-requires : tie.Need-wait-to-requires
-wait-to-requires c κs = search needs
-
-enum-known-w : tie.Need-enum-known-w
-enum-known-w c = search needs
-
-enum-told : tie.Need-enum-told
-enum-told c = search needs
 
 returns-2 : tie.Need-returns-2
 returns-2 c = let a = c .before .before .before .before .before .before in (stepped-breaks (tasksIn (a .args .plan .now) (a .args .count)) (stateOf (a .args .tick) (a .args .last) (a .args .ended .now) (a .args .ran .now)) (a .args .ended .now) _ (a .args .task) (a .args .kind) (a .args .at) (c .before .before .wait-to .result) (c .before .before .wait-to .ensures .0) (c .before .before .before .before .before .if1 .left) (c .enum-told .given .1), (tt, a .pre .1 .0, c .before .before .wait-to .ensures .1 .1))
@@ -27,9 +18,6 @@ returns-3 : tie.Need-returns-3
 returns-3 c = let a = c .before .before .before .before .before .before .before .before .before .before .before in let o = c .before .before .before .before .before .w .given in let z = c .start-now .ensures in
     (stepped-starts (tasksIn (a .args .plan .now) (a .args .count)) (stateOf (a .args .tick) (a .args .last) (a .args .ended .now) (a .args .ran .now)) (a .args .ended .now) _ (a .args .task) (a .args .kind) (a .args .at) (c .before .before .before .before .before .before .before .wait-to .result) (c .before .before .before .before .before .before .before .wait-to .ensures .0) _ _ (c .before .before .before .before .before .before .before .before .before .before .if1 .left) (o .1) (c .before .before .before .if2 .taken) (z .0), (z .1 .0, a .pre .1 .0, z .1 .1))
 
-finish-now-requires : tie.Need-finish-now-requires
-finish-now-requires c κs = search needs
-
 returns-4 : tie.Need-returns-4
 returns-4 c = let a = c .before .before .before .before .before .before .before .before .before .before .before in let o = c .before .before .before .before .before .w .given in let z = c .finish-now .ensures in
     (stepped-finishes (tasksIn (a .args .plan .now) (a .args .count)) (stateOf (a .args .tick) (a .args .last) (a .args .ended .now) (a .args .ran .now)) (a .args .ended .now) _ (a .args .task) (a .args .kind) (a .args .at) (c .before .before .before .before .before .before .before .wait-to .result) (c .before .before .before .before .before .before .before .wait-to .ensures .0) _ _ (c .before .before .before .before .before .before .before .before .before .before .if1 .left) (o .1) (c .before .before .before .if2 .left) (z .0), (known-none (a .args .count) (c .finish-now .result) (z .1 .0), z .1 .1, z .1 .2))
@@ -37,13 +25,4 @@ returns-4 c = let a = c .before .before .before .before .before .before .before 
 pub step-on-spec : {M : Type 1} → statement M
 step-on-spec =
     tie.close
-    (tie.spec
-    returns
-    wait-to-requires
-    enum-known-w
-    enum-told
-    returns-2
-    start-now-requires
-    returns-3
-    finish-now-requires
-    returns-4)
+    (tie.spec returns (λ c κs. search needs) (λ c. search needs) (λ c. search needs) returns-2 start-now-requires returns-3 (λ c κs. search needs) returns-4)

@@ -1,9 +1,8 @@
 -- Each turn takes one task more into account, where its next job is released.
-use mathlib.Core.Path.{refl, sym, _∙_}
+use mathlib.Core.Path.{refl, sym, _∙_, _≡_}
 use native.Mathlib.Omega.{arith}
 use Rattle.night.proofs.Laws.{best-taken, best-passed, best-turn}
 use mathlib.Core.Logic.{⊎-elim}
-use mathlib.Core.Path.{_≡_}
 use Prim.Native.Nat.{_-_, _≤_}
 use lib.Dec.{leb}
 use Rattle.theory.specs.Model.Schedule.{rank, release}

@@ -1,3 +1,4 @@
+-- What runs in the tick before the record ran in the whole gap, for nothing starts or ends in it.
 use Rattle.night.proofs.Laws.{wait-now, wait-stops, wait-breaks, wait-goes, quiet-room, not-taken, not-left}
 use Prim.Native.Nat.{_-_}
 use mathlib.Core.Path.{sym, _∙_}
@@ -9,23 +10,8 @@ use Rattle.night.proofs.wait_to.Tie as tie
 returns : tie.Need-returns
 returns c = let a = c .before in (wait-now (tasksIn (a .args .plan .now) (a .args .count)) (a .args .ended .now) (a .args .ran .now) (a .args .tick) (a .args .last) (a .args .at) (c .if1 .taken), (a .pre .1 .2, a .pre .1 .1))
 
-goes-on-requires : tie.Need-goes-on-requires
-goes-on-requires c κs = search needs
-
 returns-2 : tie.Need-returns-2
 returns-2 c = let a = c .before .before .before .before in (wait-stops (tasksIn (a .args .plan .now) (a .args .count)) (a .args .ended .now) (a .args .ran .now) (a .args .tick) (a .args .last) (a .args .at) (c .before .before .before .if1 .left) (sym (c .before .goes-on .ensures) ∙ not-taken _ (c .if2 .taken)), (tt, a .pre .1 .1))
-
-sub-turn-of : tie.Need-sub-turn-of
-sub-turn-of c = search needs
-
-turn-of-requires : tie.Need-turn-of-requires
-turn-of-requires c κs = search needs
-
-sub-is-quiet : tie.Need-sub-is-quiet
-sub-is-quiet c = search needs
-
-is-quiet-requires : tie.Need-is-quiet-requires
-is-quiet-requires c κs = search needs
 
 returns-3 : tie.Need-returns-3
 returns-3 c = let a = c .before .before .before .before .before .before .before .before in
@@ -33,9 +19,6 @@ returns-3 c = let a = c .before .before .before .before .before .before .before 
     let q = c .before .is-quiet in
     let g = sym (c .before .before .before .before .before .goes-on .ensures) ∙ not-left _ (c .before .before .before .before .if2 .left) in
     (wait-breaks (tasksIn (a .args .plan .now) (a .args .count)) (a .args .ended .now) (a .args .ran .now) (a .args .tick) (a .args .last) (a .args .at) (x .result) (c .before .before .before .before .before .before .before .if1 .left) g (x .ensures .0) (sym (q .ensures) ∙ not-taken _ (c .if3 .taken)), (tt, a .pre .1 .1))
-
-sub-run-on : tie.Need-sub-run-on
-sub-run-on c = search needs
 
 run-on-requires : tie.Need-run-on-requires
 run-on-requires c κs = let a = c .before .before .before .before .before .before .before .before .before in
@@ -55,15 +38,4 @@ returns-4 c = let a = c .before .before .before .before .before .before .before 
 pub wait-to-spec : {M : Type 1} → statement M
 wait-to-spec =
     tie.close
-    (tie.spec
-    returns
-    goes-on-requires
-    returns-2
-    sub-turn-of
-    turn-of-requires
-    sub-is-quiet
-    is-quiet-requires
-    returns-3
-    sub-run-on
-    run-on-requires
-    returns-4)
+    (tie.spec returns (λ c κs. search needs) returns-2 (λ c. search needs) (λ c κs. search needs) (λ c. search needs) (λ c κs. search needs) returns-3 (λ c. search needs) run-on-requires returns-4)

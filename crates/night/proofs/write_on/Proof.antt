@@ -1,8 +1,8 @@
+-- Each turn settles one place: where the task stands it writes what it has read, elsewhere nothing changes.
 use mathlib.Core.Path.{refl, sym, subst}
-use Prim.Native.Nat.{_+_}
+use Prim.Native.Nat.{_+_, _-_}
 use mathlib.Core.Logic.{⊎-elim}
 use native.Mathlib.Omega.{arith}
-use Prim.Native.Nat.{_-_}
 use lib.ListN.{length}
 use Rattle.night.specs.Conditions.{held}
 use Rattle.night.proofs.Places.{Swept, swept-start, swept-hit, swept-miss, swept-whole}
@@ -19,27 +19,6 @@ abbrev μ-loop : tie.MeasureT-loop
 loop-holds : tie.Need-loop-holds Inv-loop μ-loop
 loop-holds c = swept-start (c .args .chain .now) (c .pre .0) (c .args .task) (held (c .args .reads .now)) (c .args .writes .now) (c .pre .1 .1)
 
-shared-slice-read-if1 : tie.Need-shared-slice-read-if1 Inv-loop μ-loop
-shared-slice-read-if1 c = search needs
-
-mul-writes : tie.Need-mul-writes Inv-loop μ-loop
-mul-writes c = search needs
-
-element-copy-out-writes : tie.Need-element-copy-out-writes Inv-loop μ-loop
-element-copy-out-writes c = search needs
-
-mul-writes-2 : tie.Need-mul-writes-2 Inv-loop μ-loop
-mul-writes-2 c = search needs
-
-element-write-writes : tie.Need-element-write-writes Inv-loop μ-loop
-element-write-writes c = search needs
-
-add-q : tie.Need-add-q Inv-loop μ-loop
-add-q c = search needs
-
-loop-less : tie.Need-loop-less Inv-loop μ-loop
-loop-less c = search needs
-
 loop-again : tie.Need-loop-again Inv-loop μ-loop
 loop-again c = let a = c .before .before .before .before in
     let l = c .before .before .before .loop in
@@ -54,16 +33,4 @@ returns c = let a = c .before .before in let l = c .before .loop in swept-whole 
 pub write-on-spec : {M : Type 1} → statement M
 write-on-spec =
     tie.close
-    (tie.spec
-    Inv-loop
-    μ-loop
-    loop-holds
-    shared-slice-read-if1
-    mul-writes
-    element-copy-out-writes
-    mul-writes-2
-    element-write-writes
-    add-q
-    loop-less
-    loop-again
-    returns)
+    (tie.spec Inv-loop μ-loop loop-holds (λ c. search needs) (λ c. search needs) (λ c. search needs) (λ c. search needs) (λ c. search needs) (λ c. search needs) (λ c. search needs) loop-again returns)

@@ -436,12 +436,19 @@ fn chain_one(s: Sheet) -> Chain
     s.chains[0]
 }
 
+// The number of a record, counted from 0.
+fn number_of(r: u16) -> u32
+    ensures { λ x. ⌜ x ≡ r ⌝ }
+{
+    r as u32
+}
+
 // The break where so many of n records agree.
 fn break_of(agreeing: u16, n: u16) -> Break
     ensures { λ b. ⌜ b ≡ breakIn agreeing n ⌝ }
 {
     if agreeing < n {
-        return Break::At(agreeing as u32);
+        return Break::At(number_of(agreeing));
     }
     Break::Nowhere
 }

@@ -8,10 +8,18 @@ use Rattle.night.proofs.finish_now.Statement.{statement}
 use Rattle.night.proofs.finish_now.Tie as tie
 
 returns : tie.Need-returns
-returns c = let a = c .before in (finish-breaks (a .args .ended .now) (a .args .ran .now) (a .args .tick) (a .args .last) (a .args .task) (c .if1 .taken), (tt, a .pre .0, a .pre .1))
+returns c =
+    let a = c .before in
+    (finish-breaks (a .args .ended .now) (a .args .ran .now) (a .args .tick) (a .args .last) (a .args .task) (c .if1 .taken), (tt, a .pre .0, a .pre .1))
 
 returns-2 : tie.Need-returns-2
-returns-2 c = let a = c .before .before in (finish-goes (a .args .ended .now) (a .args .ran .now) (a .args .tick) (a .args .last) (a .args .task) (a .pre .0) (a .pre .1) (a .pre .2) (c .before .if1 .left), (λ l. absurd (omega arith), set-sixteen (a .args .ended .now) (a .args .task) (getD (a .args .ended .now) (a .args .task) 0 + 1) (a .pre .0), set-sixteen (a .args .ran .now) (a .args .task) 0 (a .pre .1)))
+returns-2 c =
+    let a = c .before .before in
+    let ended = a .args .ended .now in
+    let ran = a .args .ran .now in (
+      finish-goes ended ran (a .args .tick) (a .args .last) (a .args .task) (a .pre .0) (a .pre .1) (a .pre .2) (c .before .if1 .left),
+      (λ l. absurd (omega arith), set-sixteen ended (a .args .task) (getD ended (a .args .task) 0 + 1) (a .pre .0), set-sixteen ran (a .args .task) 0 (a .pre .1)),
+    )
 
 pub finish-now-spec : {M : Type 1} → statement M
 finish-now-spec =

@@ -21,15 +21,24 @@ loop-holds : tie.Need-loop-holds Inv-loop μ-loop
 loop-holds c = let a = c .before in swept-start (a .args .chain .now) (a .pre .0) (a .args .task) (ready (held (a .args .writes .now))) (a .args .reads .now) (a .pre .1 .1)
 
 loop-again : tie.Need-loop-again Inv-loop μ-loop
-loop-again c = let a = c .before .before .before .before .before in
+loop-again c =
+    let a = c .before .before .before .before .before in
     let l = c .before .before .before .loop in
+    let chain = a .args .chain .now in
+    let new = ready (held (a .args .writes .now)) in
+    let old = a .args .reads .now in
     ⊎-elim
-    (λ w. subst (λ xs. Swept (a .args .chain .now) (a .args .task) (ready (held (a .args .writes .now))) (a .args .reads .now) xs (l .q + 1)) (sym (w .2)) (swept-hit (a .args .chain .now) (a .pre .0) (a .args .task) (ready (held (a .args .writes .now))) (a .args .reads .now) (l .reads) (l .q) (l .inv) (omega arith) _ (w .0 .taken) (w .1 .ensures)))
-    (λ w. subst (λ xs. Swept (a .args .chain .now) (a .args .task) (ready (held (a .args .writes .now))) (a .args .reads .now) xs (l .q + 1)) (sym (w .1)) (swept-miss (a .args .chain .now) (a .pre .0) (a .args .task) (ready (held (a .args .writes .now))) (a .args .reads .now) (l .reads) (l .q) (l .inv) (omega arith) (w .0 .left)))
+    (λ w. subst (λ xs. Swept chain (a .args .task) new old xs (l .q + 1)) (sym (w .2))
+    (swept-hit chain (a .pre .0) (a .args .task) new old (l .reads) (l .q) (l .inv) (omega arith) _ (w .0 .taken) (w .1 .ensures)))
+    (λ w. subst (λ xs. Swept chain (a .args .task) new old xs (l .q + 1)) (sym (w .1))
+    (swept-miss chain (a .pre .0) (a .args .task) new old (l .reads) (l .q) (l .inv) (omega arith) (w .0 .left)))
     (c .if1 .came)
 
 returns : tie.Need-returns Inv-loop μ-loop
-returns c = let a = c .before .before .before in let l = c .before .loop in swept-whole (a .args .chain .now) (a .pre .0) (a .args .task) (ready (held (a .args .writes .now))) (a .args .reads .now) (l .reads) (l .q) (l .inv) (omega arith)
+returns c =
+    let a = c .before .before .before in
+    let l = c .before .loop in
+    swept-whole (a .args .chain .now) (a .pre .0) (a .args .task) (ready (held (a .args .writes .now))) (a .args .reads .now) (l .reads) (l .q) (l .inv) (omega arith)
 
 pub read-on-spec : {M : Type 1} → statement M
 read-on-spec =

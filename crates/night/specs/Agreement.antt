@@ -13,7 +13,8 @@ use Rattle.night.specs.declared.answer.Longest.the-variants.{Nothing, De
 use Rattle.night.specs.declared.answer.Break.{Break}
 use Rattle.night.specs.declared.answer.Break.the-variants.{Nowhere, At}
 
--- "In tick order, a finish before a start on one tick": the place of an event in this order.
+-- Tick 0 is the origin, "where no job is in progress". "In tick order, a finish before a start on one tick": the place of an event in this order,
+-- which no two events of a run share (`Results.one-event`).
 abbrev pub instant : Event → ℕ
 instant (start i t) = suc (2 * t)
 instant (finish i t) = 2 * t

@@ -1,4 +1,4 @@
--- The paths that records hold, followed in one pass with state per place of the chain. Quotations are from document 02, request P6.
+-- The paths that records hold, followed in one pass with state per place of the chain. Quotations are from document 02, P6.
 use mathlib.Core.List.{List, [], _∷_}
 use mathlib.Core.Bool.{Bool, cond, _&&_}
 use Prim.Native.Nat.{ℕ, zero, suc, _-_, _*_}

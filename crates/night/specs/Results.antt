@@ -1,5 +1,5 @@
--- P6 of the definitions: the pass names the break, and its paths and its longest delay are those of every schedule that begins with the
--- records before it; and what the call answers is fixed by that. Quotations are from document 02, P6.
+-- P6 by the definitions: the pass names the break, its paths and its longest delay are those of every schedule that begins with the records
+-- before it, and what is answered is fixed. Quotations are from document 02, P6.
 use mathlib.Core.Path.{_≡_, refl, sym, ap, ap₂, _∙_, subst}
 use mathlib.Core.Logic.{_↔_}
 use mathlib.Core.List.{List}
@@ -7,21 +7,33 @@ use Prim.Native.Nat.{ℕ, suc, _+_, _≤_, _<_}
 use native.Mathlib.Omega.{arith}
 use lib.ListN.{length, take}
 use Rattle.theory.specs.declared.Task.{Task}
-use Rattle.theory.specs.Model.Schedule.{period, release, Proper}
+use Rattle.theory.specs.Model.Schedule.{period, release, Proper, Demands, Run}
 use Rattle.theory.specs.Model.Responses.{response, Accepted}
 use Rattle.theory.specs.Model.Chain.{Chain, sampling}
 use Rattle.theory.specs.Analysis.Paths.{path-unique}
 use Rattle.theory.specs.Results.Demand3.{no-schedule-exceeds}
-use Rattle.log.specs.Events.{Event}
+use Rattle.log.specs.Events.{Event, start, finish}
 use Rattle.night.specs.declared.answer.Longest.{Longest}
 use Rattle.night.specs.declared.answer.Longest.the-variants.{Nothing, Delay}
 use Rattle.night.specs.declared.answer.Break.{Break}
 use Rattle.night.specs.declared.answer.Break.the-variants.{Nowhere, At}
-use Rattle.night.specs.Agreement.{Agrees, beforeBreak, Breaks, Completed, IsLongest, Replays}
+use Rattle.night.specs.Agreement.{instant, Happens, Agrees, beforeBreak, Breaks, Completed, IsLongest, Replays}
 use Rattle.night.specs.Pass.{fresh, taken}
+use Rattle.night.specs.PassLaws.{busy-task}
 use Rattle.night.specs.Exact.{begins-one, agrees-taken, agrees-upto, taken-most}
 use Rattle.night.specs.Follow.{unread, followed, paths}
 use Rattle.night.specs.FollowLaws.{LongestOf, same-bound, paths-logged, longest-logged}
+
+-- ---- the order
+
+-- No two starts or finishes of a run have one place in the order: in a tick one task runs, and in the tick before a finish too.
+pub one-event : (d : Demands) (run : Run) (x y : Event) → Happens d run x → Happens d run y → instant x ≡ instant y → x ≡ y
+one-event d run (start i t) (start j u) h g e = let same : t ≡ u = omega arith in
+    ap₂ start (busy-task (sym (h .1 .runs-first) ∙ ap run same ∙ g .1 .runs-first)) same
+one-event d run (start i t) (finish j u) h g e = absurd (omega arith)
+one-event d run (finish i t) (start j u) h g e = absurd (omega arith)
+one-event d run (finish i t) (finish j u) h g e = let same : t ≡ u = omega arith in
+    ap₂ finish (busy-task (sym (h .1 .runs-last) ∙ ap run {x = h .1 .last} {y = g .1 .last} (omega (arith, h .1 .is-next, g .1 .is-next)) ∙ g .1 .runs-last)) same
 
 -- ---- the break
 

@@ -6,11 +6,15 @@ pub mod bits;
 pub mod chain;
 pub mod experiment;
 pub mod generate;
+pub mod log;
+pub mod nights;
 pub mod probe;
 pub mod random;
 pub mod recurrence;
+pub mod replay;
 pub mod report;
 pub mod schedule;
+pub mod search;
 pub mod sheet;
 pub mod vectors;
 

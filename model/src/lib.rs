@@ -7,6 +7,7 @@ pub mod chain;
 pub mod experiment;
 pub mod generate;
 pub mod log;
+pub mod log_vectors;
 pub mod nights;
 pub mod probe;
 pub mod random;

@@ -1,6 +1,7 @@
 //! Requests of crates/probe, what the model answers to each, and the probe itself as a process.
 
 use crate::recurrence::quick;
+use crate::replay::{replay, Replay as Replayed};
 use crate::schedule::Worked;
 use crate::sheet::{judge, numbered, read, to_first, to_second, write, Chain, Memory};
 use crate::{arith, bits, chain, schedule, Refusal};
@@ -33,13 +34,14 @@ pub enum Call {
     ToSecond,
     ToFirst,
     Numbered,
+    Replay,
 }
 
 use Call::*;
 
-pub const CALLS: [Call; 22] = [
+pub const CALLS: [Call; 23] = [
     Gcd, Lcm, Up, Magnitude, Number, Put, Read, Greatest, Judge, Write, Sizes, Responses, TaskResponses, Delay, Margin, DefaultMargin,
-    Figures, QuickBound, Suite, ToSecond, ToFirst, Numbered,
+    Figures, QuickBound, Suite, ToSecond, ToFirst, Numbered, Replay,
 ];
 
 impl Call {
@@ -55,6 +57,7 @@ impl Call {
             Responses | TaskResponses | Margin | DefaultMargin | Figures | Suite => fields.chain([10, 11, 14, 15]).collect(),
             Delay => fields.chain([10, 11, 12, 14, 15]).collect(),
             QuickBound => fields.chain([15]).collect(),
+            Replay => fields.chain([10, 11, 14, 15, 19, 20, 21]).collect(),
         }
     }
 
@@ -88,12 +91,13 @@ pub enum Lent {
     Table { room: usize, words: Vec<u32> },
 }
 
-/// Of a call on a sheet the first number is a release or a limit, and the second the number of the chain.
+/// Of a call on a sheet the first number is a release or a limit, and the second the number of the chain. A replay alone has a log.
 #[derive(Clone)]
 pub struct Request {
     pub call: Call,
     pub numbers: [u32; 3],
     pub sheet: Handed,
+    pub log: Vec<u8>,
     pub lent: Lent,
 }
 
@@ -110,6 +114,9 @@ impl fmt::Display for Request {
             for c in s.chains {
                 write!(f, "\n    limit {} length {} entries {:?}", c.limit, c.length, c.entries)?;
             }
+        }
+        if self.call == Replay {
+            write!(f, "\n  log {}", hex(&self.log))?;
         }
         match &self.lent {
             Lent::Bytes(bytes) => write!(f, "\n  lent {} bytes {}", bytes.len(), hex(bytes)),
@@ -159,9 +166,10 @@ fn fields(s: &Memory) -> Vec<u8> {
 }
 
 impl Request {
-    /// As the probe reads it: eight words, the sheet, the first content of the lent memory.
+    /// As the probe reads it: eight words, the sheet, the first content of the lent memory. The log of a replay follows the sheet, whose size
+    /// is then the first number.
     pub fn bytes(&self) -> Vec<u8> {
-        let (form, sheet) = match &self.sheet {
+        let (form, mut sheet) = match &self.sheet {
             Handed::Bytes(bytes) => (0, bytes.clone()),
             Handed::Memory(s) => (1, fields(s)),
         };
@@ -169,7 +177,11 @@ impl Request {
             Lent::Bytes(bytes) => (0, bytes.clone()),
             Lent::Table { room, words } => (*room as u32, big_endian(&words[..words.len().min(*room)])),
         };
-        let [a, b, c] = self.numbers;
+        let [mut a, b, c] = self.numbers;
+        if self.call == Replay {
+            a = sheet.len() as u32;
+            sheet.extend(&self.log);
+        }
         let header = [self.call as u32, form, a, b, c, room, sheet.len() as u32, content.len() as u32];
         [big_endian(&header), sheet, content].concat()
     }
@@ -238,8 +250,16 @@ fn eight(totals: &[u32], chains: &[chain::Figures]) -> Vec<u32> {
     values
 }
 
-fn of_sheet(call: Call, number: u32, chain: u8, s: &Memory, buffer: &mut [u8], table: &mut [u32]) -> Told {
-    match call {
+/// Records and paths; whether there is a longest delay, it and its job; whether there is a breaking record, and which; the figure.
+fn replay_values(r: &Replayed) -> Vec<u32> {
+    let (delay, job) = r.longest.unwrap_or_default();
+    let (longest, breaking) = (u32::from(r.longest.is_some()), u32::from(r.breaking.is_some()));
+    vec![r.records, r.paths, longest, delay, job, breaking, r.breaking.unwrap_or_default(), r.figure.0, r.figure.1]
+}
+
+fn of_sheet(q: &Request, s: &Memory, buffer: &mut [u8], table: &mut [u32]) -> Told {
+    let (number, chain) = (q.numbers[0], q.numbers[1] as u8);
+    match q.call {
         Judge => judge(s).map(|_| vec![]),
         Write => Ok(long(write(s, buffer)? as u64)),
         Sizes => schedule::sizes(s).map(|z| vec![z.hyperperiod, z.jobs]),
@@ -254,7 +274,8 @@ fn of_sheet(call: Call, number: u32, chain: u8, s: &Memory, buffer: &mut [u8], t
         ToSecond => to_second(s).map(|s| sheet_values(&s)),
         ToFirst => to_first(s).map(|s| sheet_values(&s)),
         Numbered => numbered(s, chain).map(|_| vec![]),
-        _ => unreachable!("{call:?} takes no sheet"),
+        Replay => replay(s, &q.log, table).map(|r| replay_values(&r)),
+        call => unreachable!("{call:?} takes no sheet"),
     }
 }
 
@@ -272,8 +293,8 @@ fn told(q: &Request, buffer: &mut [u8], table: &mut [u32]) -> Told {
         }
         (Read, Handed::Bytes(bytes)) => Ok(sheet_values(&read(bytes)?)),
         (Greatest, _) => Ok(vec![table.iter().copied().max().unwrap_or(0)]),
-        (call, Handed::Bytes(bytes)) => of_sheet(call, a, b as u8, &read(bytes)?, buffer, table),
-        (call, Handed::Memory(s)) => of_sheet(call, a, b as u8, s, buffer, table),
+        (_, Handed::Bytes(bytes)) => of_sheet(q, &read(bytes)?, buffer, table),
+        (_, Handed::Memory(s)) => of_sheet(q, s, buffer, table),
     }
 }
 

@@ -1,15 +1,17 @@
 //! Requests that are always made of the probe: document 01's sheets, both ends of each range, every place where bytes may end, each
 //! refusal alone, at the first and at the last place where it can occur, and beside another, tables and buffers that are too short by
 //! one, exact and longer, sheets for which only the quick bound without a table is answered, every chain by its number and numbers of
-//! none, conversions, and every call on every sample and on every bad field in memory.
+//! none, conversions, every call on every sample and on every bad field in memory, and replays.
 
+use crate::log_vectors::replays;
 use crate::probe::{Call, Handed, Lent, Request};
 use crate::schedule::{responses, sizes};
 use crate::sheet::{chain, encoded, marked_bits, memory, packed, raw_bits, read, suite, unjudged, Chain, Memory, Task};
 use Call::*;
 
 pub fn requests() -> Vec<Request> {
-    [numbers_and_bits(), readings(), sheets_in_memory(), tables(), chains(), without_a_table(), chain_numbers(), conversions(), samples()].concat()
+    [numbers_and_bits(), readings(), sheets_in_memory(), tables(), chains(), without_a_table(), chain_numbers(), conversions(), samples(), replays()]
+        .concat()
 }
 
 // Parts of requests
@@ -24,7 +26,7 @@ fn sheet(tasks: &[(u32, u32, u8)], chain: &[u8]) -> Memory {
 }
 
 fn request(call: Call, numbers: [u32; 3], sheet: Handed, lent: Lent) -> Request {
-    Request { call, numbers, sheet, lent }
+    Request { call, numbers, sheet, log: vec![], lent }
 }
 
 fn no_sheet() -> Handed {
@@ -66,7 +68,7 @@ fn numbers_and_bits() -> Vec<Request> {
     ]
 }
 
-// Readings: what the bytes hold, and where they are accepted the judgement of the sheet and its bytes written again
+// Readings: where the bytes are taken what they hold, the judgement of the sheet and its bytes written again; the refusal of others
 
 fn readings() -> Vec<Request> {
     let bad: Vec<Vec<u8>> = bad_fields().iter().map(unjudged).collect();
@@ -74,12 +76,13 @@ fn readings() -> Vec<Request> {
     bytes.into_iter().flat_map(reading).collect()
 }
 
+/// The blank sheet that comes with a refusal is asked for on the samples, of each number.
 fn reading(bytes: Vec<u8>) -> Vec<Request> {
     let taken = read(&bytes).is_ok();
     let sheet = Handed::Bytes(bytes);
-    let mut requests = vec![request(Read, [0; 3], sheet.clone(), nothing_lent())];
+    let mut requests = vec![request(Judge, [0; 3], sheet.clone(), nothing_lent())];
     if taken {
-        requests.push(request(Judge, [0; 3], sheet.clone(), nothing_lent()));
+        requests.push(request(Read, [0; 3], sheet.clone(), nothing_lent()));
         requests.push(request(Write, [0; 3], sheet, buffer(180)));
     }
     requests
@@ -437,12 +440,10 @@ fn tables() -> Vec<Request> {
         (late, 4, 1),
         (alone(&[(5, 6, 1)]), 3, 6),
         (alone(&[]), 3, 6),
-        (pair(1_000, 999), 2_048, 5),
         (pair(1_000, 999), 1_999, 5),
         (pair(1_000, 999), 1_998, 5),
         (pair(1_000, 1_001), 20, 5),
         (pair(2, 16_382), 8_192, 5),
-        (pair(2, 16_382), 8_191, 5),
         (pair(2, 16_384), 20, 5),
         (on_time, 600, 4),
         (sixteen_late, 600, 4),
@@ -703,7 +704,7 @@ fn samples() -> Vec<Request> {
     sheets.flat_map(|s| every_call(&s)).collect()
 }
 
-/// The table has three entries more than are needed, or twenty where none are.
+/// The table has three entries more than are needed, or twenty where none are. A large one comes back whole, so it is lent to few calls.
 fn every_call(sheet: &Handed) -> Vec<Request> {
     let jobs = sheet.memory().and_then(|s| sizes(&s).ok()).map_or(17, |z| z.jobs);
     let with = |call, number, lent| request(call, [number, 1, 0], sheet.clone(), lent);
@@ -713,15 +714,14 @@ fn every_call(sheet: &Handed) -> Vec<Request> {
         Handed::Memory(_) => vec![],
     };
     requests.extend([with(Judge, 0, nothing_lent()), with(Write, 0, buffer(178)), with(Sizes, 0, nothing_lent())]);
+    requests.push(with_table(Suite, 0));
+    if jobs <= 2_000 {
+        requests.extend([with_table(TaskResponses, 0), with_table(Delay, 0), with_table(Margin, 8), with_table(Figures, 0)]);
+    }
+    if jobs <= 1_000 {
+        requests.extend([with_table(Responses, 0), with_table(Delay, 20), with_table(DefaultMargin, 0)]);
+    }
     requests.extend([
-        with_table(Responses, 0),
-        with_table(TaskResponses, 0),
-        with_table(Delay, 0),
-        with_table(Delay, 20),
-        with_table(Margin, 8),
-        with_table(DefaultMargin, 0),
-        with_table(Figures, 0),
-        with_table(Suite, 0),
         with(QuickBound, 0, nothing_lent()),
         with(ToSecond, 0, nothing_lent()),
         with(ToFirst, 0, nothing_lent()),

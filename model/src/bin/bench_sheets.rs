@@ -58,7 +58,7 @@ fn chain_lengths(s: &Memory) -> String {
 /// A call on the first chain, with a table of zeros that has as many entries as it needs.
 fn request(call: Call, sheet: &[u8], jobs: u32) -> Vec<u8> {
     let lent = Lent::Table { room: jobs as usize, words: vec![] };
-    Request { call, numbers: [0, 1, 0], sheet: Handed::Bytes(sheet.to_vec()), lent }.bytes()
+    Request { call, numbers: [0, 1, 0], sheet: Handed::Bytes(sheet.to_vec()), log: vec![], lent }.bytes()
 }
 
 /// The same request with a number that is no call's, for which the probe reads the sheet and answers nothing.

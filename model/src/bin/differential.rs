@@ -63,7 +63,7 @@ impl Run {
 #[derive(Default)]
 struct Met {
     accepted: [u64; CALLS.len()],
-    refused: [[u64; 19]; CALLS.len()],
+    refused: [[u64; 22]; CALLS.len()],
     /// Each number that comes with a bit, and that bit.
     places: BTreeSet<(u8, u32)>,
     over: u64,
@@ -149,7 +149,7 @@ impl Met {
             let refused: u64 = self.refused[at].iter().sum();
             println!("  {name:<16}{:>7} requests{accepted:>7} accepted{refused:>7} refused", accepted + refused);
         }
-        let numbers: Vec<String> = (1..=18).map(|n| format!("{n}: {}", self.with_number(n))).collect();
+        let numbers: Vec<String> = (1..=21).map(|n| format!("{n}: {}", self.with_number(n))).collect();
         println!("  refusals by number: {}", numbers.join(", "));
         let bits: Vec<String> = (1..=9).map(|n| format!("{n}: {}", self.bits_with(n))).collect();
         println!("  different bits by number: {}", bits.join(", "));
@@ -238,7 +238,7 @@ fn ask(probe: &mut Probe, call: Call, s: &Memory, number: u8) -> Vec<u32> {
         Call::QuickBound => Lent::Bytes(vec![]),
         _ => Lent::Table { room: 8_192, words: vec![] },
     };
-    let q = Request { call, numbers: [0, number.into(), 0], sheet: Handed::Memory(*s), lent };
+    let q = Request { call, numbers: [0, number.into(), 0], sheet: Handed::Memory(*s), log: vec![], lent };
     words(&asked(probe, &q, || ()).0)
 }
 

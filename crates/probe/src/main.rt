@@ -195,8 +195,10 @@ fn put_break(out: &mut [u8], at: usize, b: Break) -> usize {
 
 fn put_replayed(out: &mut [u8], r: Replayed) -> usize {
     let first = two(&mut *out, r.records, r.paths);
-    let second = put_longest(&mut *out, first, r.longest);
-    let third = put_break(&mut *out, second, r.breaking);
+    let longest = r.longest;
+    let second = put_longest(&mut *out, first, longest);
+    let breaking = r.breaking;
+    let third = put_break(&mut *out, second, breaking);
     let figure = r.figure;
     put_words(out, third, &[figure.ticks, figure.release])
 }

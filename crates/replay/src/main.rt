@@ -37,10 +37,12 @@ fn print_break(b: Break) {
 fn print_replayed(r: Replayed) {
     page::print_number(b"records ", r.records);
     page::print_number(b"\npaths ", r.paths);
-    print_longest(r.longest);
+    let longest = r.longest;
+    print_longest(longest);
     let figure = r.figure;
     page::print_number(b"\nfigure ", figure.ticks);
-    print_break(r.breaking);
+    let breaking = r.breaking;
+    print_break(breaking);
 }
 
 fn number_of(r: Refusal) -> u8 {

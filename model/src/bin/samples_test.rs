@@ -31,6 +31,7 @@ fn radio_logs(radio: &[Task]) -> Vec<(&'static str, Vec<u8>)> {
     vec![
         ("night", log_of(2_586_000, &night)),
         ("full", log_of(0, &full)),
+        ("two", log_of(u32::MAX, &full[..2])),
         // The counter passes its top value between the ticks 29 and 30, on a finish.
         ("rollover", log_of(0u32.wrapping_sub(29), &full)),
         ("empty", log_of(60, &[])),

@@ -294,13 +294,13 @@ fn of_bytes(q: Request, bytes: &[u8], lent: &mut [u8], table: &mut [u32], out: &
 }
 
 fn of_sheet_and_log(
-    q: Request,
+    form: u32,
     bytes: &[u8],
     log: &[u8],
     table: &mut [u32],
     out: &mut [u8],
 ) -> usize {
-    if q.form == 0 {
+    if form == 0 {
         let r = sheet::read(bytes);
         let v = r.verdict;
         let Verdict::Fine = v else {
@@ -311,13 +311,12 @@ fn of_sheet_and_log(
     put_replay(out, night::replay(sheet_in(bytes), log, table))
 }
 
-// The log follows the sheet, whose size is the first number.
-fn of_log(q: Request, bytes: &[u8], table: &mut [u32], out: &mut [u8]) -> usize {
-    let size = q.first as usize;
+// The log follows the sheet, which has so many bytes.
+fn of_log(form: u32, size: usize, bytes: &[u8], table: &mut [u32], out: &mut [u8]) -> usize {
     if size > bytes.len() {
         return accepted(out);
     }
-    of_sheet_and_log(q, &bytes[..size], &bytes[size..], table, out)
+    of_sheet_and_log(form, &bytes[..size], &bytes[size..], table, out)
 }
 
 fn of_call(q: Request, sheet: &[u8], lent: &mut [u8], table: &mut [u32], out: &mut [u8]) -> usize {
@@ -328,7 +327,7 @@ fn of_call(q: Request, sheet: &[u8], lent: &mut [u8], table: &mut [u32], out: &m
         6 => of_lent_bytes(lent, q.first, q.second, q.third, out),
         7 => of_reading(sheet, out),
         8 => one(out, arith::greatest(&*table)),
-        23 => of_log(q, sheet, table, out),
+        23 => of_log(q.form, q.first as usize, sheet, table, out),
         _ => {
             if q.form == 0 {
                 return of_bytes(q, sheet, lent, table, out);

@@ -360,10 +360,12 @@ fn of_sheet(r: &mut Random, call: Call) -> Request {
     Request { call, numbers: [number, chain, 0], sheet, log: vec![], lent }
 }
 
-/// A replay of a log that is made for the sheet, or for another where the sheet's fields are refused; some logs are damaged.
+/// A replay of a log that is made for the sheet, or for another where the sheet's fields are refused; some logs are damaged. Most sheets are
+/// taken, with a table that is large enough, as else no log is looked at.
 fn of_log(r: &mut Random) -> Request {
-    let sheet = handed(r);
-    let lent = lent(r, Call::Replay, &sheet);
+    let sheet = if r.one_in(3) { handed(r) } else { Handed::Memory(sheet(r)) };
+    let jobs = sheet.memory().and_then(|s| sizes(&s).ok()).map_or(20, |z| z.jobs as usize);
+    let lent = if r.one_in(3) { lent(r, Call::Replay, &sheet) } else { Lent::Table { room: jobs, words: vec![r.word()] } };
     let seen = sheet.memory().filter(|s| judge(s).is_ok()).unwrap_or_else(|| sheet_of(r, &[20, 6, 12], &[5, 1, 3]));
     let mut log = nights::log(r, seen.tasks());
     if r.one_in(10) {

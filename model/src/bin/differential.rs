@@ -4,6 +4,7 @@
 //!
 //! The same seed repeats the same requests. The first difference is printed in words and ends the run with status 1.
 
+use model::bits::number;
 use model::experiment::{experiment, experiment_with_bounds, Claim, Followed};
 use model::generate::{odd_sheet, request, sheet, some_chain};
 use model::probe::{answer, readable, words, Answer, Call, Handed, Lent, Probe, Request, CALLS};
@@ -85,6 +86,73 @@ struct Met {
     beyond: u64,
     beyond_late: u64,
     just_fit: u64,
+    nights: Nights,
+}
+
+/// Of the replays that were answered: how many logs agree and how many break, at the first record and later; how many have a path and how
+/// many have none; how many reach the sampling figure; how many roll over, have no record, and have as many as can be. And of the logs that
+/// were refused with 1 and with 9, how many.
+#[derive(Default)]
+struct Nights {
+    agree: u64,
+    at_once: u64,
+    later: u64,
+    paths: u64,
+    no_path: u64,
+    reached: u64,
+    rollovers: u64,
+    empty: u64,
+    longest: u64,
+    ended: u64,
+    surplus: u64,
+}
+
+impl Nights {
+    fn note(&mut self, q: &Request, a: &Answer) {
+        match (a.refusal, &a.values[..]) {
+            (None, &[records, paths, _, delay, _, breaks, record, figure, _]) => {
+                self.agree += u64::from(breaks == 0);
+                self.at_once += u64::from(breaks == 1 && record == 0);
+                self.later += u64::from(record > 0);
+                self.paths += u64::from(paths > 0);
+                self.no_path += u64::from(paths == 0);
+                self.reached += u64::from(paths > 0 && delay == figure);
+                let number = |at| number(&q.log, at, 32);
+                self.rollovers += u64::from(records > 0 && number(44 + 37 * (records - 1) + 5) < number(0));
+                self.empty += u64::from(records == 0);
+                self.longest += u64::from(records == 4_095);
+            }
+            // Bytes of a sheet that are refused are no sheet.
+            (Some(r), _) if q.sheet.memory().is_some() => {
+                self.ended += u64::from(r.number == 1);
+                self.surplus += u64::from(r.number == 9);
+            }
+            _ => (),
+        }
+    }
+
+    fn print(&self) {
+        println!(
+            "  logs: {} agree, {} break at once, {} later; {} with paths, {} without, {} as long as the figure; {} roll over, {} empty, {} longest",
+            self.agree, self.at_once, self.later, self.paths, self.no_path, self.reached, self.rollovers, self.empty, self.longest
+        );
+    }
+
+    fn each(&self) -> [(u64, &'static str); 11] {
+        [
+            (self.agree, "a log that agrees"),
+            (self.at_once, "a log that breaks at its first record"),
+            (self.later, "a log that breaks later"),
+            (self.paths, "a log with a path"),
+            (self.no_path, "a log without a path"),
+            (self.reached, "a path as long as the sampling figure"),
+            (self.rollovers, "a log that rolls over"),
+            (self.empty, "a log of no records"),
+            (self.longest, "a log of 4,095 records"),
+            (self.ended, "a log that ends inside a field"),
+            (self.surplus, "a log with something behind it"),
+        ]
+    }
 }
 
 impl Met {
@@ -100,6 +168,9 @@ impl Met {
         self.over += u64::from(q.call == Call::Lcm && a.values[0] == 0);
         if let (Call::QuickBound, Some(s)) = (q.call, q.sheet.memory()) {
             self.note_quick(&s, a);
+        }
+        if q.call == Call::Replay {
+            self.nights.note(q, a);
         }
         if let Some(s) = q.sheet.memory().filter(|s| q.call as u32 >= Call::Judge as u32 && judge(s).is_ok()) {
             self.note_sheet(q, &s, a);
@@ -171,6 +242,7 @@ impl Met {
             "  without a table and beyond H or J {} answered, {} late; {} where a task just fits",
             self.beyond, self.beyond_late, self.just_fit
         );
+        self.nights.print();
     }
 
     /// Everything that the calls can answer, and that was not met.
@@ -202,7 +274,7 @@ impl Met {
             (self.beyond_late, "a late task beyond H or J"),
             (self.just_fit, "a task that just fits"),
         ];
-        missing.extend(once.into_iter().filter(|(times, _)| *times == 0).map(|(_, what)| what.into()));
+        missing.extend(once.into_iter().chain(self.nights.each()).filter(|(times, _)| *times == 0).map(|(_, what)| what.into()));
         missing
     }
 }

@@ -173,8 +173,8 @@ fn bad_fields(r: &mut Random, origin: u32, tasks: &[Task], records: &[Record]) -
 /// How many records: mostly few, as the model tries many counts of them.
 fn count(r: &mut Random) -> usize {
     match r.between(0, 99) {
-        0 => MOST,
-        1..=4 => r.between(0, MOST as u32) as usize,
+        0 | 1 => MOST,
+        2..=4 => r.between(0, MOST as u32) as usize,
         5..=9 => r.between(0, 2) as usize,
         10..=29 => r.between(0, 300) as usize,
         _ => r.between(0, 60) as usize,

@@ -65,7 +65,7 @@ impl Run {
 struct Met {
     accepted: [u64; CALLS.len()],
     refused: [[u64; 22]; CALLS.len()],
-    /// Each number that comes with a bit, and that bit.
+    /// Each number that comes with a bit of a sheet, and that bit.
     places: BTreeSet<(u8, u32)>,
     over: u64,
     /// Of the sheets whose fields are fine, in bytes and in memory: edition and number of chains.
@@ -162,7 +162,8 @@ impl Met {
             None => self.accepted[at] += 1,
             Some(r) => {
                 self.refused[at][r.number as usize] += 1;
-                self.places.extend(r.value.filter(|_| r.number <= 9).map(|bit| (r.number, bit)));
+                let of_log = q.call == Call::Replay && [1, 9].contains(&r.number);
+                self.places.extend(r.value.filter(|_| r.number <= 9 && !of_log).map(|bit| (r.number, bit)));
             }
         }
         self.over += u64::from(q.call == Call::Lcm && a.values[0] == 0);

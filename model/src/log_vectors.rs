@@ -10,7 +10,8 @@ use crate::schedule::sizes;
 use crate::sheet::{chain, memory, packed, suite, unjudged, Memory, Task};
 
 pub fn replays() -> Vec<Request> {
-    [agreeing(), lies(), rollovers(), where_logs_end(), refusals_of_a_log(), in_order(), longest(), chains()].concat()
+    let logs = [agreeing(), lies(), on_one_tick(), rollovers(), where_logs_end(), refusals_of_a_log(), longest()];
+    [logs.concat(), in_order(), chains(), interrupted()].concat()
 }
 
 fn task(period: u32, budget: u32, rank: u8) -> Task {
@@ -29,6 +30,11 @@ fn quartet() -> Memory {
 fn sixteen() -> Memory {
     let tasks: Vec<Task> = (0..16).map(|i| task([40, 60, 80, 120][i % 4], 1 + i as u32 % 3, (i * 7 % 16) as u8)).collect();
     memory(&tasks, &(0..16).map(|i| (i * 3 + 5) % 16).collect::<Vec<_>>())
+}
+
+/// Short tasks that interrupt a long one again and again.
+fn long() -> Memory {
+    memory(&[task(4, 1, 3), task(40, 12, 1), task(10, 3, 2)], &[0, 2, 1])
 }
 
 fn request(sheet: Handed, log: Vec<u8>, room: usize) -> Request {
@@ -70,6 +76,24 @@ fn lies() -> Vec<Request> {
                 let lied = with_lie(&mut random, s.tasks(), &records, lie);
                 requests.extend(lied.map(|lied| replay(&s, encoded(9, &lied))));
             }
+        }
+    }
+    requests
+}
+
+/// With full budgets each pair of records on one tick exchanged, and the first of it left out. Of some pairs a job is done with its budget when
+/// another that outranks it is released.
+fn on_one_tick() -> Vec<Request> {
+    let tight = memory(&[task(4, 1, 2), task(4, 3, 1)], &[0, 1]);
+    let mut requests = Vec::new();
+    for s in [tight, radio(), long()] {
+        let records = full(&s, 24);
+        for a in (1..24).filter(|&a| records[a].tick == records[a - 1].tick) {
+            let mut lied = records.clone();
+            lied.swap(a - 1, a);
+            requests.push(replay(&s, encoded(0, &lied)));
+            lied.truncate(a);
+            requests.push(replay(&s, encoded(0, &lied)));
         }
     }
     requests
@@ -193,4 +217,21 @@ fn chains() -> Vec<Request> {
     noisy.chains[0].limit = u32::MAX;
     sheets.push(noisy);
     sheets.iter().map(|s| replay(s, log.clone())).collect()
+}
+
+/// A path goes on to a job that starts at or after the write, and not to one that was interrupted by it: the long task among the first, the
+/// last and between.
+fn interrupted() -> Vec<Request> {
+    let mut random = Random::new(4);
+    let chains: [&[u8]; 7] = [&[0, 1], &[2, 1], &[0, 2, 1], &[2, 0, 1], &[1, 0], &[1, 2, 0], &[0, 1, 2]];
+    let mut requests = Vec::new();
+    for entries in chains {
+        let s = memory(long().tasks(), entries);
+        requests.push(replay(&s, encoded(0, &full(&s, 120))));
+        for _ in 0..4 {
+            let count = random.between(20, 120) as usize;
+            requests.push(replay(&s, encoded(random.word(), &true_records(&mut random, s.tasks(), count))));
+        }
+    }
+    requests
 }

@@ -79,12 +79,12 @@ fn replay(bytes: &[u8], log: &[u8], table: &mut [u32]) {
     print_replayed(replayed);
 }
 
-// A sheet has at most 178 bytes and a log at most 18,945, and what lies past the byte after never changes the answer, so these buffers serve
-// inputs of any length.
+// What lies past the 179th byte never changes the answer of a sheet. A log has at most 18,945 bytes, and of what follows only whether anything
+// does matters. So these buffers serve inputs of any length.
 fn main() {
     let mut input = io::buffer();
     let n = io::read_full(0, &mut input);
-    let mut log = io::large_buffer();
+    let mut log = [0u8; 18946];
     let m = io::read_full(3, &mut log);
     let mut table = [0u32; 8192];
     replay(&input[..n], &log[..m], &mut table);

@@ -1,6 +1,5 @@
 -- The tests are the definition's.
 use borrow.Author.Tests.{eq-eqb, ne-eqb, not-true, not-false}
-use borrow.Author.Needs.{needs}
 use Rattle.bellkettle.proofs.file_of.Statement.{statement}
 use Rattle.bellkettle.proofs.file_of.Tie as tie
 

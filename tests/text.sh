@@ -8,8 +8,7 @@ need script bsdutils
 . tests/uses.sh
 
 for words in 'sheet samples/radio.txt' 'text samples/radio.sheet'; do ./bellkettle $words >/dev/null 2>&1; done
-for program in report bound 'convert --to 2' text; do ./bellkettle $program samples/radio.sheet >/dev/null 2>&1; done
-./bellkettle sheet samples/radio.txt >/dev/null 2>&1 # all stand there from here on
+for program in report bound 'convert --to 2'; do ./bellkettle $program samples/radio.sheet >/dev/null 2>&1; done # all stand there from here on
 
 # Wrong use
 

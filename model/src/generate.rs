@@ -399,7 +399,7 @@ fn of_sheet(r: &mut Random, call: Call) -> Request {
 /// A replay of a log that is made for the sheet, or for another where the sheet's fields are refused; some logs are damaged. Most sheets are
 /// taken, with a table that is large enough, as else no log is looked at.
 fn of_log(r: &mut Random) -> Request {
-    let sheet = if r.one_in(3) { handed(r) } else { Handed::Memory(sheet(r)) };
+    let sheet = if r.one_in(2) { handed(r) } else { Handed::Memory(sheet(r)) };
     let jobs = sheet.memory().and_then(|s| sizes(&s).ok()).map_or(20, |z| z.jobs as usize);
     let lent = if r.one_in(3) { lent(r, Call::Replay, &sheet) } else { Lent::Table { room: jobs, words: vec![r.word()] } };
     let seen = sheet.memory().filter(|s| judge(s).is_ok()).unwrap_or_else(|| sheet_of(r, &[20, 6, 12], &[5, 1, 3]));

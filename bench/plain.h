@@ -1,8 +1,9 @@
 // The report as one would write it by hand in C, to compare with. A program that includes this has a way to fill the table.
 //
 //     PROGRAM report|bound|bound-twin|table|figures|quick|quick-twin|read < SHEET
+//     PROGRAM replay < SHEET 3< LOG
 //
-// `report` and `bound` print what the proved programs of these names print, and `figures` the sampling figure of the first chain, its release
+// `report`, `bound` and `replay` print what the proved programs of these names print, and `figures` the sampling figure of the first chain, its release
 // and its bound. The others print one number: the idle ticks, the first chain's bound without a table, the task count. With `-twin` the tasks
 // that outrank one are gathered before they are gone over.
 #include <stdbool.h>
@@ -323,6 +324,8 @@ static void print_report(const struct sheet *s, const struct plan *plan) {
     }
 }
 
+#include "log.h"
+
 int main(int count, char **words) {
     uint8_t input[4096];
     uint32_t table[MOST_JOBS];
@@ -345,8 +348,19 @@ int main(int count, char **words) {
         print_bound(&s, gathered);
         return 0;
     }
+    static struct log log;
+    bool replays = strcmp(what, "replay") == 0;
+    if (replays) {
+        static uint8_t bytes[MOST_LOG];
+        ssize_t size = 0, more;
+        while ((more = read(3, bytes + size, sizeof bytes - size)) > 0)
+            size += more;
+        read_log(bytes, size, &s, &log);
+    }
     fill_table(&s, &plan, table);
-    if (strcmp(what, "table") == 0)
+    if (replays)
+        print_replay(&s, &plan, &log);
+    else if (strcmp(what, "table") == 0)
         printf("%u\n", plan.idle);
     else if (strcmp(what, "figures") == 0)
         print_figures(&s, &plan);

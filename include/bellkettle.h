@@ -52,6 +52,7 @@
  *       bellkettle_quick_bound, which knows no H, a job released at any time
  *   16  the edition is not 2, in bytes that begin with a mark; to bellkettle_write, neither 1 nor 2
  *   17  the number of chains is 0 or over 8; or the sheet has no chain of the number that is asked for
+ *   19, 20, 21  of a log, at bellkettle_replay; 25, 26 at bellkettle_stamp
  *
  * Of several one is given: 1 to 9, 13, 16 and 17 of a field are judged front to back, each field when it is read. After them come 17 for the
  * number of a chain, then 10, 11, 12, 13 for the limit that the call is given, 14 and 15 in this order.
@@ -170,6 +171,40 @@ uint8_t bellkettle_write(uint8_t edition,
                          const uint8_t *entries, size_t entries_length,
                          uint8_t *out, size_t out_length,
                          int64_t *values, size_t values_length);
+
+/*
+ * Does last night's log agree with the sheet?
+ *
+ * The clock's log of starts and finishes: a 32-bit origin counter, the number of records in 12 bits, then of each record the task's index in
+ * 4 bits, its kind in 1, where 0 is a start and 1 a finish, and a 32-bit counter, then zero bits to the end of the byte. Logging begins at the
+ * origin, at a multiple of H, where no job is in progress. The counter rolls over past its top value; time is the sum of the differences between
+ * neighbours. Record r begins at bit 44 + 37 r. A log has at most BELLKETTLE_LOG bytes.
+ *
+ * The records agree when they are the first starts and finishes, a finish before a start on one tick, of some schedule of the sheet's tasks
+ * in which each job runs for 1 to C ticks. The breaking record is the first that, with all before it, does not agree. In the records before it
+ * the paths of chain number 1 are followed, each from the release of its first job to its end, the finish of its last.
+ */
+#define BELLKETTLE_LOG 18945
+
+/*
+ * values, nine: how many records the log has; how many paths are completed in it; 1 where there is a longest of these, its ticks, which are never
+ * above the sampling figure, and the smallest number of a job that has it, counted from 0; 1 where a record breaks, and which, counted from 0;
+ * the sampling figure of chain number 1, and the smallest release that gives it. Where there is no longest, or no break, 0 stands for it and in its
+ * places. The table is filled as by bellkettle_figures.
+ *
+ * Refuses 1 to 9, 13, 16, 17 of a field of the sheet; 10, 11, 14; of the log, front to back,
+ *    1  its bytes end inside a field
+ *   19  a record names a task that the sheet does not have
+ *   20  a start during a job of that task, or a finish without one
+ *   21  a difference, or the time so far, is 2,147,483,648 or more
+ *    9  a bit after the last record is 1, or a byte follows the last needed
+ * and then 15. A break is no refusal. With 1 to 9 and 15 values[1] is the file that is refused, 0 the sheet and 1 the log: by it 1 and 9 of
+ * the two are told apart, and values[0] is a bit of that file. 19, 20 and 21 come with no value.
+ */
+uint8_t bellkettle_replay(const uint8_t *sheet, size_t sheet_length,
+                          const uint8_t *log, size_t log_length,
+                          uint32_t *table, size_t table_length,
+                          int64_t *values, size_t values_length);
 
 /*
  * The tell-tale on the clock itself

@@ -12,8 +12,9 @@ need setpriv util-linux
 
 # What is explained
 
-for program in report bound 'convert --to 2' 'compare samples/radio-edition-2.sheet'; do
-    ./bellkettle $program samples/radio.sheet >/dev/null 2>&1 || true # they stand there from here on
+for words in 'report samples/radio.sheet' 'bound samples/radio.sheet' 'convert --to 2 samples/radio.sheet' \
+    'compare samples/radio-edition-2.sheet samples/radio.sheet' 'replay samples/radio.sheet samples/radio-full.log'; do
+    ./bellkettle $words >/dev/null 2>&1 || true # they stand there from here on
 done
 try 'no command' ./bellkettle
 ends 0 && says_nothing && cp "$room/out" "$room/all"
@@ -74,6 +75,14 @@ for words in '' samples/radio.sheet 'samples/radio.sheet samples/trio.sheet samp
     try "compare $words" ./bellkettle compare $words
     refuses_use "compare takes two sheets, the old and the new, and $(echo "$words" | wc -w) were given"
 done
+for words in '' samples/radio.sheet 'samples/radio.sheet samples/radio-full.log samples/radio-two.log'; do
+    try "replay $words" ./bellkettle replay $words
+    refuses_use "replay takes a sheet and a log, and the words given are $(echo $words | wc -w)"
+done
+try 'replay: both on standard input' ./bellkettle replay - -
+refuses_use 'only one of sheet and log can come on standard input'
+try 'an option that replay does not have' ./bellkettle replay --verbose samples/radio.sheet samples/radio-full.log
+refuses_use "replay has no option '--verbose'"
 try 'version of something' ./bellkettle --version report
 refuses_use '--version takes nothing more'
 
@@ -82,8 +91,10 @@ refuses_use '--version takes nothing more'
 for command in report bound; do
     try "$command: a sheet" ./bellkettle $command samples/radio.sheet
     ends 0 && says_nothing && prints samples/radio.$command
-    try "$command: a sheet on standard input" sh -c "./bellkettle $command <samples/radio.sheet"
-    ends 0 && says_nothing && prints samples/radio.$command
+    for words in '' -; do
+        try "$command $words: a sheet on standard input" sh -c "./bellkettle $command $words <samples/radio.sheet"
+        ends 0 && says_nothing && prints samples/radio.$command
+    done
 done
 try 'convert: a sheet' ./bellkettle convert --to 2 samples/radio.sheet
 ends 0 && says_nothing && prints samples/radio-edition-2.sheet
@@ -94,7 +105,23 @@ ends 0 && says_nothing && prints samples/radio-edition-2.sheet
 try 'convert: to a terminal' script -qec './bellkettle convert --to 2 samples/radio.sheet' /dev/null
 ends 2 && grep -q '^bellkettle: a sheet is bytes that a terminal does not show; ' "$room/out" || wrong 'to be told that a file is needed'
 
-sed -n '/^## Refusals/,/^## [^R]/p' README.md | grep '^| [0-9]' >"$room/table"
+try 'replay: a log that agrees' ./bellkettle replay samples/radio.sheet samples/radio-night.log
+ends 0 && says_nothing && prints samples/radio-night.replay
+try 'replay: a sheet on standard input' sh -c './bellkettle replay - samples/radio-night.log <samples/radio.sheet'
+ends 0 && says_nothing && prints samples/radio-night.replay
+try 'replay: a log on standard input' sh -c './bellkettle replay samples/radio.sheet - <samples/radio-night.log'
+ends 0 && says_nothing && prints samples/radio-night.replay
+try 'replay: another file on descriptor 3' sh -c './bellkettle replay samples/radio.sheet samples/radio-night.log 3<samples/radio-breaks.log'
+ends 0 && says_nothing && prints samples/radio-night.replay
+try 'replay: files named as options' sh -c 'cp samples/radio.sheet "$1/--help" && cp samples/radio-night.log "$1/-" && cd "$1" && "$2/bellkettle" replay -- --help ./-' sh "$room" "$here"
+ends 0 && says_nothing && prints samples/radio-night.replay
+for log in samples/radio-breaks*.log; do
+    try "replay: $log" ./bellkettle replay samples/radio.sheet "$log"
+    record=$(sed -n 's/^breaks at record //p' "${log%.log}.replay")
+    ends 4 && prints "${log%.log}.replay" && says "^bellkettle: $log: record $record, which begins at bit $((44 + 37 * record)) (.*), does not follow from "
+done
+
+sed -n '/^## Refusals/,/^## [^R]/p' README.md | grep -E '^\| (log )?[0-9]' >"$room/table"
 cmp "$room/table" tools/refusals.txt || { echo 'tests/bellkettle.sh: the refusals of README.md and tools/refusals.txt are not the same' && exit 1; }
 
 refused_in_words() { # COMMAND SHEET NUMBER BECAUSE REMEDY
@@ -118,9 +145,28 @@ not_converted() { # EDITION SHEET BECAUSE REMEDY: the line that report prints, t
     esac
 }
 
+refused_log() { # LOG NUMBER BECAUSE REMEDY
+    try "replay $1" ./bellkettle replay samples/radio.sheet "$1"
+    ends 1 && prints "${1%.log}.replay"
+    case $(cat "$room/out") in
+    "log: refused $2" | "log: refused $2 bit "*) ;;
+    *) wrong "log: refused $2 expected" ;;
+    esac
+    bit=$(sed -n 's/.* bit //p' "$room/out")
+    case $2:$bit in [1-9]:) wrong 'a bit expected' ;; esac
+    place=${bit:+"at bit $bit (bit $((bit % 8)) of byte $((bit / 8)), counted from 0): "}
+    [ "$(cat "$room/err")" = "bellkettle: $1: $place$3; $4" ] || wrong 'the place and the sentence of the table expected'
+}
+
 while IFS='|' read -r _ number because remedy _; do
     number=${number# } because=${because# } remedy=${remedy# }
     number=${number% } because=${because% } remedy=${remedy% }
+    case $number in
+    'log '*)
+        for log in samples/radio-refused-"${number#log }"-*.log; do refused_log "$log" "${number#log }" "$because" "$remedy"; done
+        continue
+        ;;
+    esac
     if [ "$number" = 18 ]; then
         for sheet in suite radio-own-limit; do not_converted 1 samples/$sheet.sheet "$because" "$remedy"; done
         [ "$(head -n 1 "$room/err")" = 'refused 18' ] || wrong 'the refusal expected'
@@ -136,6 +182,9 @@ while IFS='|' read -r _ number because remedy _; do
             ;;
         *) refused_in_words bound "$sheet" "$number" "$because" "$remedy" ;;
         esac
+        try "replay $sheet" ./bellkettle replay "$sheet" samples/radio-empty.log
+        ends 1 && says "^bellkettle: $sheet: " && says "$remedy\$"
+        [ "$(cat "$room/out")" = "sheet: $(cat "${sheet%.sheet}.report")" ] || wrong "report's refusal expected, of the sheet"
         case $number in
         10 | 11 | 15) ;;
         *)
@@ -155,15 +204,25 @@ for command in report bound; do
     try "$command: bytes without an end" ./bellkettle $command /dev/zero
     ends 1 && prints samples/refused-2-count.$command
 done
+try 'replay: a bad sheet and a bad log' ./bellkettle replay samples/refused-10-hyperperiod.sheet samples/radio-refused-20-start.log
+ends 1 && [ "$(cat "$room/out")" = 'sheet: refused 10' ] || wrong 'the refusal of the sheet expected'
+try 'replay: a late sheet and a bad log' ./bellkettle replay samples/refused-15-late.sheet samples/radio-refused-20-start.log
+ends 1 && [ "$(cat "$room/out")" = 'log: refused 20' ] || wrong 'the refusal of the log expected'
+try 'replay: a log without an end' ./bellkettle replay samples/radio.sheet /dev/zero
+ends 1 && [ "$(cat "$room/out")" = 'log: refused 9 bit 48' ] && says '^bellkettle: /dev/zero: at bit 48 ' || wrong 'the refusal of the log expected'
 try 'a late task beyond any hyperperiod' ./bellkettle bound samples/odd-late.sheet
 ends 1 && prints samples/odd-late.bound && says '^bellkettle: samples/odd-late.sheet: task 2 is late: '
 
-# README's reports and its bound, line by line, the bytes of an edition 2 sheet, and what is said of the sheets that have no report and no old form.
+# README's reports, its bound and its replays, line by line, the bytes of an edition 2 sheet and of a log, and what is said of the sheets that
+# have no report and no old form and of the log that breaks.
 try 'the sheet that README does not convert' ./bellkettle convert --to 1 samples/suite.sheet
 cp "$room/err" "$room/unconverted"
 { od -An -v -tx1 samples/lone-edition-2.sheet | tr -d '\n' | tr a-f A-F | sed 's/^ //' && echo; } >"$room/bytes"
+{ od -An -v -tx1 samples/radio-two.log | tr -d '\n' | tr a-f A-F | sed 's/^ //' && echo; } >>"$room/bytes"
+try 'the log that README breaks' ./bellkettle replay samples/radio.sheet samples/radio-breaks.log
+cat samples/radio-night.replay "$room/out" "$room/err" >"$room/replayed"
 try 'the sheet whose bound README prints' ./bellkettle report samples/odd.sheet
-cat samples/radio.report samples/suite.report samples/odd.bound "$room/out" "$room/err" "$room/unconverted" "$room/bytes" | while read -r line; do
+cat samples/radio.report samples/suite.report samples/odd.bound "$room/out" "$room/err" "$room/unconverted" "$room/bytes" "$room/replayed" | while read -r line; do
     grep -qxF "    $line" README.md docs/FORMAT.md || wrong "README.md or docs/FORMAT.md expected to print: $line"
 done
 
@@ -223,9 +282,21 @@ for words in 'samples/nothing.sheet samples/radio.sheet' 'samples/radio.sheet sa
     try "compare $words" ./bellkettle compare $words
     fails 'samples/nothing.sheet: there is no such file; '
 done
+try 'replay: no such sheet' ./bellkettle replay samples/nothing.sheet samples/radio-full.log
+fails 'samples/nothing.sheet: there is no such file; '
+try 'replay: no such log' ./bellkettle replay samples/radio.sheet samples/nothing.log
+fails 'samples/nothing.log: there is no such file; '
+try 'replay: a folder for a log' ./bellkettle replay samples/radio.sheet samples
+fails 'samples: this is a folder; '
+try 'replay: a closed input for a sheet' sh -c './bellkettle replay - samples/radio-full.log <&-'
+fails 'standard input: it is closed; give a file there, or its name: bellkettle replay FILE samples/radio-full.log'
+try 'replay: a closed input for a log' sh -c './bellkettle replay samples/radio.sheet - <&-'
+fails 'standard input: it is closed; give a file there, or its name: bellkettle replay samples/radio.sheet FILE'
 for words in 'report samples/radio.sheet' 'report samples/refused-2-count.sheet' 'bound samples/odd.sheet' 'bound samples/refused-2-count.sheet' \
     'convert --to 2 samples/radio.sheet' 'compare samples/radio-edition-2.sheet samples/radio-display.sheet' 'compare samples/spread.sheet samples/spread-between.sheet' \
-    --help 'help report' 'help bound' 'help convert' 'help compare' --version; do
+    'replay samples/radio.sheet samples/radio-full.log' 'replay samples/radio.sheet samples/radio-breaks.log' \
+    'replay samples/radio.sheet samples/radio-refused-20-start.log' \
+    --help 'help report' 'help bound' 'help convert' 'help compare' 'help replay' --version; do
     try "$words, to a full disk" sh -c "./bellkettle $words >/dev/full"
     fails 'standard output: not all could be written there; '
     try "$words, to a closed output" sh -c "./bellkettle $words >&-"

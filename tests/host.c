@@ -1,7 +1,8 @@
 /*
  * A program in C over the library: every function of include/bellkettle.h on the sheets of document 01, on each refusal that can
  * come of it, at every place where a field can be bad, and on lent memory that is just large enough, too short by one, or empty.
- * Figures are documents 01's and 02's where they have the sheet. The tell-tale's calls are made on records of this program.
+ * Figures are documents 01's and 02's where they have the sheet. Logs come of a clock that this program runs tick by tick. The tell-tale's
+ * calls are made on records of this program.
  */
 #include "bellkettle.h"
 
@@ -26,6 +27,9 @@
 #define LENGTH_BIT(n) (5 + 42 * (int)(n))
 #define ENTRY_BIT(n, j) (10 + 42 * (int)(n) + 4 * (int)(j))
 #define NO_BIT (-1)
+
+/* Half the range of a counter. */
+#define HALF 2147483648u
 
 /* The same in edition 2, of a chain that begins at bit p; the first chain's, and the next one's after a chain of m. */
 #define MARKED(bit) (9 + (bit))
@@ -780,14 +784,196 @@ static void short_memory(void) {
     expect("eighteen entries", "one more", entries[18], MARK_BYTE);
 }
 
+/* The replay: logs as a clock would write them, and logs that no clock would. */
+
+struct record {
+    uint32_t task, kind, counter;
+};
+
+struct log {
+    uint32_t origin, count;
+    struct record at[4095];
+};
+
+static struct log night;
+static uint8_t log_bytes[BELLKETTLE_LOG + 1];
+static size_t log_bits;
+
+static void log_number(unsigned width, uint32_t number) {
+    for (unsigned bit = width; bit-- > 0; log_bits++) {
+        log_bytes[log_bits / 8] |= (uint8_t)((number >> bit & 1) << (7 - log_bits % 8));
+    }
+}
+
+/* How many bytes the log takes. */
+static size_t log_written(const struct log *l) {
+    memset(log_bytes, 0, sizeof log_bytes);
+    log_bits = 0;
+    log_number(32, l->origin);
+    log_number(12, l->count);
+    for (uint32_t r = 0; r < l->count; r++) {
+        log_number(4, l->at[r].task);
+        log_number(1, l->at[r].kind);
+        log_number(32, l->at[r].counter);
+    }
+    return (log_bits + 7) / 8;
+}
+
+static void log_record(struct log *l, uint32_t task, uint32_t kind, uint32_t time) {
+    if (l->count < 4095) {
+        l->at[l->count++] = (struct record){task, kind, l->origin + time};
+    }
+}
+
+/* A clock that keeps the sheet, every job with its whole budget, tick by tick: at each the finish that is due is logged, and the start if one is. */
+static void run_clock(struct log *l, const struct fields *f, uint32_t origin, uint32_t ticks) {
+    uint32_t jobs[BELLKETTLE_TASKS] = {0}, ran[BELLKETTLE_TASKS] = {0};
+    l->origin = origin;
+    l->count = 0;
+    for (uint32_t t = 0; t < ticks; t++) {
+        uint32_t best = BELLKETTLE_TASKS;
+        for (uint32_t i = 0; i < f->n; i++) {
+            if (ran[i] == f->budgets[i]) {
+                log_record(l, i, 1, t);
+                ran[i] = 0;
+                jobs[i]++;
+            }
+            if (jobs[i] * f->periods[i] <= t && (best == BELLKETTLE_TASKS || f->ranks[i] > f->ranks[best])) {
+                best = i;
+            }
+        }
+        if (best < BELLKETTLE_TASKS && ran[best]++ == 0) {
+            log_record(l, best, 0, t);
+        }
+    }
+}
+
+static uint8_t replay(const struct fields *f, size_t log_length, size_t room, size_t places) {
+    struct bytes sheet = pack(f);
+    mark();
+    return bellkettle_replay(sheet.at, size_of(&sheet), log_bytes, log_length, table, room, values, places);
+}
+
+/* An answer, in as many places as there are, with Radio's responses in the table. */
+static void expect_replayed(const char *name, size_t log_length, const int64_t *wanted) {
+    const uint32_t rows[] = {10, 9, 6, 1, 1, 1, 1, 1, 1, 1, 1, 1, 1, 4, 4, 4, 4, 4};
+    for (size_t places = 0; places <= VALUES; places++) {
+        expect(name, "the number returned", replay(&radio, log_length, 18, places), 0);
+        for (size_t i = 0; i < places; i++) {
+            expect(name, "a value", values[i], wanted[i]);
+        }
+        for (size_t i = 0; i < 18; i++) {
+            expect(name, "a response", table[i], rows[i]);
+        }
+        expect_marked(name, places, 18);
+    }
+}
+
+/* A refusal other than 15; of those that come with a bit the file is the second value. */
+static void expect_not_replayed(const char *name, const struct fields *f, size_t log_length, size_t room, uint8_t refusal, int bit) {
+    expect(name, "the refusal", replay(f, log_length, room, VALUES), refusal);
+    if (bit != NO_BIT) {
+        expect(name, "the bit", values[0], bit);
+        expect(name, "the file", values[1], 1);
+    }
+    expect_marked(name, bit != NO_BIT ? 2 : 0, 0);
+}
+
+/* With budgets used up Radio's paths from its first three jobs take document 01's delays, 16, 20 and 12, and so on again after H. */
+static void logs_that_agree(void) {
+    const uint32_t origins[] = {0, 60, 4294967280u};
+    for (size_t i = 0; i < sizeof origins / sizeof *origins; i++) {
+        run_clock(&night, &radio, origins[i], 121);
+        size_t size = log_written(&night);
+        expect_replayed("two hyperperiods", size, (int64_t[]){night.count, 6, 1, 20, 1, 0, 0, 20, 20});
+        run_clock(&night, &radio, origins[i], 36);
+        expect_replayed("one path", log_written(&night), (int64_t[]){night.count, 1, 1, 16, 0, 0, 0, 20, 20});
+        run_clock(&night, &radio, origins[i], 10);
+        expect_replayed("no path", log_written(&night), (int64_t[]){night.count, 0, 0, 0, 0, 0, 0, 20, 20});
+        night.count = 0;
+        expect_replayed("no record", log_written(&night), (int64_t[]){0, 0, 0, 0, 0, 0, 0, 20, 20});
+    }
+}
+
+/* A start that comes a tick late while it is the task's turn; the paths before it count. */
+static void logs_that_break(void) {
+    run_clock(&night, &radio, 60, 121);
+    night.at[0].counter++;
+    expect_replayed("a first start too late", log_written(&night), (int64_t[]){night.count, 0, 0, 0, 0, 1, 0, 20, 20});
+    run_clock(&night, &radio, 60, 121);
+    uint32_t r = 0;
+    while (night.at[r].kind != 0 || night.at[r].task != 0 || night.at[r].counter < 120) {
+        r++;
+    }
+    night.at[r].task = 2;
+    night.count = r + 1;
+    expect_replayed("a start out of turn", log_written(&night), (int64_t[]){r + 1, 3, 1, 20, 1, 1, r, 20, 20});
+}
+
+/* One refusal of the log each, with a sheet and a table that are taken. */
+static void logs_refused(void) {
+    run_clock(&night, &radio, 0, 13);
+    size_t size = log_written(&night);
+    for (size_t length = 0; length < size; length++) {
+        int at = (int)length * 8 < 32 ? 0 : (int)length * 8 < 44 ? 32 : ((int)length * 8 - 44) / 37 * 37 + 44;
+        int left = (int)length * 8 - at;
+        at += at < 44 ? 0 : left < 4 ? 0 : left < 5 ? 4 : 5;
+        expect_not_replayed("a log cut short", &radio, length, 18, 1, at);
+    }
+    expect_not_replayed("a byte too many", &radio, size + 1, 18, 9, (int)size * 8);
+    expect("a log", "its bits", (int64_t)log_bits, 44 + 37 * 9);
+    log_bytes[size - 1] |= 1;
+    expect_not_replayed("a bit after the last", &radio, size, 18, 9, (int)size * 8 - 1);
+    night.at[1].task = 3;
+    expect_not_replayed("no such task", &radio, log_written(&night), 18, 19, NO_BIT);
+    night.at[1].task = night.at[0].task;
+    night.at[1].kind = 0;
+    expect_not_replayed("a start during the job", &radio, log_written(&night), 18, 20, NO_BIT);
+    night.at[0].kind = 1;
+    expect_not_replayed("a finish without a job", &radio, log_written(&night), 18, 20, NO_BIT);
+    night.at[0].kind = 0;
+    night.at[0].counter = HALF;
+    expect_not_replayed("half the range", &radio, log_written(&night), 18, 21, NO_BIT);
+    night.at[0].counter = HALF - 1;
+    night.at[1].kind = 1;
+    night.at[1].counter = HALF;
+    expect_not_replayed("half the range so far", &radio, log_written(&night), 18, 21, NO_BIT);
+    expect_not_replayed("no room for a table", &radio, log_written(&night), 17, 14, NO_BIT);
+    expect_not_replayed("no H", &odd, 0, 0, 10, NO_BIT);
+}
+
+/* The sheet's bytes come first, and its late task last. */
+static void sheets_refused_with_a_log(void) {
+    struct bytes sheet = pack(&radio);
+    for (size_t size = 0; size < size_of(&sheet); size++) {
+        mark();
+        expect("a sheet cut short", "the refusal", bellkettle_replay(sheet.at, size, NULL, 0, table, 18, values, VALUES), 1);
+        expect("a sheet cut short", "the bit", values[0], field_cut(&radio, size * 8));
+        expect("a sheet cut short", "the file", values[1], 0);
+        expect_marked("a sheet cut short", 2, 0);
+    }
+    mark();
+    expect("a sheet with a byte too many", "the refusal", bellkettle_replay(sheet.at, size_of(&sheet) + 1, NULL, 0, table, 18, values, 1), 9);
+    expect("a sheet with a byte too many", "the bit", values[0], (int64_t)size_of(&sheet) * 8);
+    expect_marked("a sheet with a byte too many", 1, 0);
+    expect_not_replayed("a late task, and no log", &late, 0, 5, 1, 0);
+    night.origin = night.count = 0;
+    expect(late.name, "the refusal", replay(&late, log_written(&night), 5, VALUES), 15);
+    expect(late.name, "the task", values[0], 1);
+    expect(late.name, "the file", values[1], 0);
+    for (size_t i = 0; i < 5; i++) {
+        expect(late.name, "a zero", table[i], 0);
+    }
+    expect_marked(late.name, 2, 5);
+    expect("nothing lent", "the refusal", bellkettle_replay(NULL, 0, NULL, 0, NULL, 0, NULL, 0), 1);
+}
+
 /* The tell-tale: a record of this layout, lent where it stands. */
 _Static_assert(offsetof(struct bellkettle_telltale, underway) == 0, "underway");
 _Static_assert(offsetof(struct bellkettle_telltale, counter) == 4, "counter");
 _Static_assert(offsetof(struct bellkettle_telltale, longest) == 8, "longest");
 _Static_assert(offsetof(struct bellkettle_telltale, count) == 12, "count");
 _Static_assert(sizeof(struct bellkettle_telltale) == 16, "size");
-
-#define HALF 2147483648u
 
 static void expect_record(const char *name, const struct bellkettle_telltale *kept, bool underway, uint32_t counter, uint32_t longest, uint16_t count) {
     expect(name, "whether a reading is under way", kept->underway, underway);
@@ -887,6 +1073,10 @@ int main(void) {
     margin_below_zero();
     odd_periods();
     short_memory();
+    logs_that_agree();
+    logs_that_break();
+    logs_refused();
+    sheets_refused_with_a_log();
     telltale();
     telltale_by_chance();
     printf("host: %u checks\n", checks);

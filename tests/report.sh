@@ -92,6 +92,7 @@ for sheet in lone radio; do
     converts 2 samples/$sheet.sheet samples/$sheet-edition-2.sheet
     converts 1 samples/$sheet-edition-2.sheet samples/$sheet.sheet
 done
+for words in 'text samples/radio.sheet' 'sheet samples/radio.txt'; do ./bellkettle $words >/dev/null 2>&1; done # they stand there from here on
 # A text beside each sheet that is well formed: it is packed to the sheet, has its report and its bound, and what is shown of the sheet is
 # packed to it again; the texts that have no names of their own are what is shown.
 for sheet in samples/*.sheet; do

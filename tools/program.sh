@@ -83,7 +83,7 @@ build() { # NAME
     chmod 711 "$yard" # rt runs what it has built as nobody where it is root
     rm -f "$record"
     : >"$yard/said"
-    (cd "$root" && TMPDIR=$yard exec setsid rt check "$1") >"$yard/said" 2>&1 </dev/null &
+    (cd "$root" && TMPDIR=$yard exec setsid rt check "$1") >"$yard/said" 2>&1 </dev/null 3<&- &
     child=$! building=$1
     while kill -0 "$child" 2>/dev/null; do
         progress

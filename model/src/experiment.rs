@@ -63,7 +63,7 @@ pub fn first_from(night: &Night, task: u8, tick: u32) -> usize {
 
 /// When the reading of a job of the chain's first task is written by the last task, if it is within the night: a job reads at its
 /// start and writes at its finish, and a read at a tick has what was written at or before it.
-fn written_at(night: &Night, chain: &[u8], job: usize) -> Option<u32> {
+pub fn written_at(night: &Night, chain: &[u8], job: usize) -> Option<u32> {
     let finish = |task: u8, job: usize| *night.finishes[task as usize].get(job)?;
     chain[1..].iter().try_fold(finish(chain[0], job)?, |written, &task| finish(task, first_from(night, task, written)))
 }

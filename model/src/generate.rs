@@ -4,8 +4,8 @@ use crate::probe::{fields, run_bytes, Call, Handed, Lent, Request, CALLS};
 use crate::random::Random;
 use crate::recurrence::response;
 use crate::schedule::sizes;
-use crate::sheet::{chain as limited, marked_bits, memory, numbered, packed, suite, to_second, unjudged, Chain, Memory, Task, OLD_LIMIT};
-use crate::{arith, chain, telltale};
+use crate::sheet::{chain as limited, judge, marked_bits, memory, numbered, packed, suite, to_second, unjudged, Chain, Memory, Task, OLD_LIMIT};
+use crate::{arith, chain, nights, telltale};
 
 /// Ticks with many divisors, from which periods are taken. The model goes tick by tick, so the last are rare.
 const SMALL: [u32; 6] = [6, 12, 24, 36, 48, 60];
@@ -393,7 +393,21 @@ fn of_sheet(r: &mut Random, call: Call) -> Request {
     let lent = lent(r, call, &sheet);
     let chain = if call.names_a_chain() { chain_number(r, sheet.memory()) } else { 0 };
     let number = number(r, call, sheet.memory(), chain as u8);
-    Request { call, numbers: [number, chain, 0], sheet, lent }
+    Request { call, numbers: [number, chain, 0], sheet, log: vec![], lent }
+}
+
+/// A replay of a log that is made for the sheet, or for another where the sheet's fields are refused; some logs are damaged. Most sheets are
+/// taken, with a table that is large enough, as else no log is looked at.
+fn of_log(r: &mut Random) -> Request {
+    let sheet = if r.one_in(2) { handed(r) } else { Handed::Memory(sheet(r)) };
+    let jobs = sheet.memory().and_then(|s| sizes(&s).ok()).map_or(20, |z| z.jobs as usize);
+    let lent = if r.one_in(3) { lent(r, Call::Replay, &sheet) } else { Lent::Table { room: jobs, words: vec![r.word()] } };
+    let seen = sheet.memory().filter(|s| judge(s).is_ok()).unwrap_or_else(|| sheet_of(r, &[20, 6, 12], &[5, 1, 3]));
+    let mut log = nights::log(r, seen.tasks());
+    if r.one_in(10) {
+        damage(r, &mut log);
+    }
+    Request { call: Call::Replay, numbers: [0; 3], sheet, log, lent }
 }
 
 /// Mostly a sheet that was converted, so that it goes back.
@@ -441,7 +455,7 @@ fn readings_before(r: &mut Random) -> u32 {
 pub fn request(r: &mut Random) -> Request {
     let call = r.pick(&CALLS);
     let size = r.between(0, 40);
-    let plain = Request { call, numbers: [0; 3], sheet: Handed::Bytes(vec![]), lent: Lent::Bytes(vec![]) };
+    let plain = Request { call, numbers: [0; 3], sheet: Handed::Bytes(vec![]), log: vec![], lent: Lent::Bytes(vec![]) };
     match call {
         Call::Gcd | Call::Lcm | Call::Up | Call::Magnitude => Request { numbers: of_numbers(r, call), ..plain },
         Call::Number => Request { numbers: of_bits(r, size), sheet: Handed::Bytes(r.bytes(size)), ..plain },
@@ -449,6 +463,7 @@ pub fn request(r: &mut Random) -> Request {
         Call::Read => Request { sheet: Handed::Bytes(handed_as_bytes(r)), ..plain },
         Call::Greatest => Request { lent: table(r, None), ..plain },
         Call::Telltale => Request { numbers: [readings_before(r), 0, 0], sheet: Handed::Bytes(run_bytes(&telltale::calls(r))), ..plain },
+        Call::Replay => of_log(r),
         _ => of_sheet(r, call),
     }
 }

@@ -2,6 +2,7 @@
 
 use crate::lower::{compare, Comparison};
 use crate::recurrence::{quick, quick_suite};
+use crate::replay::{replay, Replay as Replayed};
 use crate::schedule::Worked;
 use crate::sheet::{judge, numbered, read, to_first, to_second, write, Chain, Memory, Task};
 use crate::telltale::{self, History};
@@ -39,13 +40,14 @@ pub enum Call {
     Compare,
     ChainCount,
     QuickSuite,
+    Replay,
 }
 
 use Call::*;
 
-pub const CALLS: [Call; 26] = [
+pub const CALLS: [Call; 27] = [
     Gcd, Lcm, Up, Magnitude, Number, Put, Read, Greatest, Judge, Write, Sizes, Responses, TaskResponses, Delay, Margin, DefaultMargin,
-    Figures, QuickBound, Suite, ToSecond, ToFirst, Numbered, Telltale, Compare, ChainCount, QuickSuite,
+    Figures, QuickBound, Suite, ToSecond, ToFirst, Numbered, Telltale, Compare, ChainCount, QuickSuite, Replay,
 ];
 
 impl Call {
@@ -62,6 +64,7 @@ impl Call {
             Delay => fields.chain([10, 11, 12, 14, 15]).collect(),
             QuickBound | QuickSuite => fields.chain([15]).collect(),
             Compare => fields.chain([10, 11, 15]).collect(),
+            Replay => fields.chain([10, 11, 14, 15, 19, 20, 21]).collect(),
         }
     }
 
@@ -96,12 +99,13 @@ pub enum Lent {
 }
 
 /// Of a call on a sheet the first number is a release or a limit, and the second the number of the chain; of a run of the tell-tale's calls,
-/// which stands for the sheet, the first is how many readings come before it.
+/// which stands for the sheet, the first is how many readings come before it. A replay alone has a log.
 #[derive(Clone)]
 pub struct Request {
     pub call: Call,
     pub numbers: [u32; 3],
     pub sheet: Handed,
+    pub log: Vec<u8>,
     pub lent: Lent,
 }
 
@@ -118,6 +122,9 @@ impl fmt::Display for Request {
             for c in s.chains {
                 write!(f, "\n    limit {} length {} entries {:?}", c.limit, c.length, c.entries)?;
             }
+        }
+        if self.call == Replay {
+            write!(f, "\n  log {}", hex(&self.log))?;
         }
         match &self.lent {
             Lent::Bytes(bytes) => write!(f, "\n  lent {} bytes {}", bytes.len(), hex(bytes)),
@@ -182,9 +189,10 @@ fn sheet_in(bytes: &[u8]) -> Memory {
 }
 
 impl Request {
-    /// As the probe reads it: eight words, the sheet, the first content of the lent memory.
+    /// As the probe reads it: eight words, the sheet, the first content of the lent memory. The log of a replay follows the sheet, whose size
+    /// is then the first number.
     pub fn bytes(&self) -> Vec<u8> {
-        let (form, sheet) = match &self.sheet {
+        let (form, mut sheet) = match &self.sheet {
             Handed::Bytes(bytes) => (0, bytes.clone()),
             Handed::Memory(s) => (1, fields(s)),
         };
@@ -192,7 +200,11 @@ impl Request {
             Lent::Bytes(bytes) => (0, bytes.clone()),
             Lent::Table { room, words } => (*room as u32, big_endian(&words[..words.len().min(*room)])),
         };
-        let [a, b, c] = self.numbers;
+        let [mut a, b, c] = self.numbers;
+        if self.call == Replay {
+            a = sheet.len() as u32;
+            sheet.extend(&self.log);
+        }
         let header = [self.call as u32, form, a, b, c, room, sheet.len() as u32, content.len() as u32];
         [big_endian(&header), sheet, content].concat()
     }
@@ -307,8 +319,16 @@ fn compared(found: Comparison) -> Told {
     }
 }
 
-fn of_sheet(call: Call, number: u32, chain: u8, s: &Memory, buffer: &mut [u8], table: &mut [u32]) -> Told {
-    match call {
+/// Records and paths; whether there is a longest delay, it and its job; whether there is a breaking record, and which; the figure.
+fn replay_values(r: &Replayed) -> Vec<u32> {
+    let (delay, job) = r.longest.unwrap_or_default();
+    let (longest, breaking) = (u32::from(r.longest.is_some()), u32::from(r.breaking.is_some()));
+    vec![r.records, r.paths, longest, delay, job, breaking, r.breaking.unwrap_or_default(), r.figure.0, r.figure.1]
+}
+
+fn of_sheet(q: &Request, s: &Memory, buffer: &mut [u8], table: &mut [u32]) -> Told {
+    let (number, chain) = (q.numbers[0], q.numbers[1] as u8);
+    match q.call {
         Judge => judge(s).map(|_| vec![]),
         Write => Ok(long(write(s, buffer)? as u64)),
         Sizes => schedule::sizes(s).map(|z| vec![z.hyperperiod, z.jobs]),
@@ -326,7 +346,8 @@ fn of_sheet(call: Call, number: u32, chain: u8, s: &Memory, buffer: &mut [u8], t
         ToFirst => to_first(s).map(|s| sheet_values(&s)),
         Numbered => numbered(s, chain).map(|_| vec![]),
         Compare => compared(compare(s, &sheet_in(buffer))),
-        _ => unreachable!("{call:?} takes no sheet"),
+        Replay => replay(s, &q.log, table).map(|r| replay_values(&r)),
+        call => unreachable!("{call:?} takes no sheet"),
     }
 }
 
@@ -345,8 +366,8 @@ fn told(q: &Request, buffer: &mut [u8], table: &mut [u32]) -> Told {
         (Read, Handed::Bytes(bytes)) => Ok(sheet_values(&read(bytes)?)),
         (Telltale, Handed::Bytes(bytes)) => Ok(run_values(a, bytes)),
         (Greatest, _) => Ok(vec![table.iter().copied().max().unwrap_or(0)]),
-        (call, Handed::Bytes(bytes)) => of_sheet(call, a, b as u8, &read(bytes)?, buffer, table),
-        (call, Handed::Memory(s)) => of_sheet(call, a, b as u8, s, buffer, table),
+        (_, Handed::Bytes(bytes)) => of_sheet(q, &read(bytes)?, buffer, table),
+        (_, Handed::Memory(s)) => of_sheet(q, s, buffer, table),
     }
 }
 

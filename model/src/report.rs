@@ -1,10 +1,12 @@
-//! The lines of the programs report, bound and compare, and what the program convert answers.
+//! The lines of the programs report, bound, compare and replay, and what the program convert answers.
 
 use crate::chain::suite;
 use crate::lower::{self, Comparison};
 use crate::recurrence::quick;
+use crate::replay::{replay, Replay};
+use crate::schedule::sizes;
 use crate::sheet::{read, to_first, to_second, write, Memory};
-use crate::Refusal;
+use crate::{log, Refusal};
 
 /// "each index with R"
 fn task_lines(responses: &[u32]) -> String {
@@ -67,6 +69,25 @@ pub fn compare(old: &[u8], new: &[u8]) -> String {
         Comparison::Edition(which) => format!("differs edition {which}\n"),
         Comparison::Chain => "differs chain\n".into(),
         Comparison::Task(i, difference) => format!("differs task {i} {difference}\n"),
+    }
+}
+
+fn replay_lines(r: &Replay) -> String {
+    let longest = r.longest.map_or("none".into(), |(delay, job)| format!("{delay} job {job}"));
+    let verdict = r.breaking.map_or("agrees".into(), |record| format!("breaks at record {record}"));
+    format!("records {}\npaths {}\nlongest {longest}\nfigure {}\n{verdict}\n", r.records, r.paths, r.figure.0)
+}
+
+/// A log held to its sheet. A refusal stands behind the file that it is about.
+pub fn replayed(sheet: &[u8], log: &[u8]) -> String {
+    let s = match read(sheet) {
+        Ok(s) => s,
+        Err(r) => return format!("sheet: {r}\n"),
+    };
+    let of_log = sizes(&s).is_ok() && log::read(log, s.tasks().len()).is_err();
+    match replay(&s, log, &mut [0; 8_192]) {
+        Ok(r) => replay_lines(&r),
+        Err(r) => format!("{}: {r}\n", if of_log { "log" } else { "sheet" }),
     }
 }
 

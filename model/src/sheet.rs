@@ -78,7 +78,7 @@ pub fn suite(tasks: &[Task], chains: &[Chain]) -> Memory {
     m
 }
 
-fn bits_of(value: u32, width: usize) -> String {
+pub(crate) fn bits_of(value: u32, width: usize) -> String {
     let text = format!("{value:032b}");
     text[32 - width..].to_string()
 }
@@ -139,14 +139,18 @@ pub fn unjudged(s: &Memory) -> Vec<u8> {
 }
 
 /// Bits that are read from the front on, and where the last field that was read begins.
-struct Cursor {
+pub(crate) struct Cursor {
     bits: String,
     at: usize,
     begin: usize,
 }
 
 impl Cursor {
-    fn field(&mut self, width: usize) -> Result<u32, Refusal> {
+    pub(crate) fn new(bytes: &[u8]) -> Cursor {
+        Cursor { bits: text_of(bytes), at: 0, begin: 0 }
+    }
+
+    pub(crate) fn field(&mut self, width: usize) -> Result<u32, Refusal> {
         self.begin = self.at;
         if self.at + width > self.bits.len() {
             return Err(Refusal::at(1, self.begin));
@@ -157,7 +161,7 @@ impl Cursor {
     }
 
     /// The last field that was read is judged.
-    fn refuse_if(&self, bad: bool, number: u8) -> Result<(), Refusal> {
+    pub(crate) fn refuse_if(&self, bad: bool, number: u8) -> Result<(), Refusal> {
         if bad {
             return Err(Refusal::at(number, self.begin));
         }
@@ -220,7 +224,7 @@ impl Cursor {
     }
 
     /// "the earlier of the first wrong bit and the surplus byte's first"
-    fn end(&self) -> Result<(), Refusal> {
+    pub(crate) fn end(&self) -> Result<(), Refusal> {
         let wrong = self.bits[self.at..].find('1').map(|k| self.at + k);
         let needed = (self.at..).find(|end| end % 8 == 0).unwrap();
         let surplus = Some(needed).filter(|&end| end < self.bits.len());
@@ -233,7 +237,7 @@ impl Cursor {
 
 /// The sheet in these bytes, or the first refusal. "Other first bits mean an old sheet."
 pub fn read(bytes: &[u8]) -> Result<Memory, Refusal> {
-    let mut c = Cursor { bits: text_of(bytes), at: 0, begin: 0 };
+    let mut c = Cursor::new(bytes);
     let s = match c.field(5)? {
         MARK => c.marked_sheet()?,
         n => c.old_sheet(n)?,

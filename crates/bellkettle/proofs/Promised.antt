@@ -11,7 +11,7 @@ use contract.Monad.{Fun, fact}
 use denote.Triple.Clauses.{AtExit}
 use denote.Triple.Entry.{Args, Res}
 use Rattle.bellkettle.specs.declared.Question.{Question}
-use Rattle.bellkettle.specs.Promises.{SheetAsked, QuickAsked, SheetRead, SheetWritten, RecordBegun, RecordStamped}
+use Rattle.bellkettle.specs.Promises.{SheetAsked, QuickAsked, SheetRead, SheetWritten, ReplayAsked, RecordBegun, RecordStamped}
 use Rattle.bellkettle.proofs.bellkettle_responses.Reads as bellkettle_responses
 use Rattle.bellkettle.proofs.bellkettle_delay.Reads as bellkettle_delay
 use Rattle.bellkettle.proofs.bellkettle_margin.Reads as bellkettle_margin
@@ -20,6 +20,7 @@ use Rattle.bellkettle.proofs.bellkettle_figures.Reads as bellkettle_fig
 use Rattle.bellkettle.proofs.bellkettle_quick_bound.Reads as bellkettle_quick_bound
 use Rattle.bellkettle.proofs.bellkettle_read.Reads as bellkettle_read
 use Rattle.bellkettle.proofs.bellkettle_write.Reads as bellkettle_write
+use Rattle.bellkettle.proofs.bellkettle_replay.Reads as bellkettle_replay
 use Rattle.bellkettle.proofs.bellkettle_begin as bellkettle_begin
 use Rattle.bellkettle.proofs.bellkettle_stamp as bellkettle_stamp
 
@@ -46,6 +47,9 @@ bellkettle-read-promised = refl
 
 bellkettle-write-promised : bellkettle_write.Learnt ≡ (λ κs a r e. SheetWritten (a .0) (a .1 .0 .now) (a .1 .1 .0 .now) (a .1 .1 .1 .0 .now) (a .1 .1 .1 .1 .0 .now) (a .1 .1 .1 .1 .1 .0 .now) (a .1 .1 .1 .1 .1 .1 .0 .now) r (a .1 .1 .1 .1 .1 .1 .1 .1 .0 .now) (e .1 .1 .1 .1 .1 .1 .1 .1 .0 .now) (a .1 .1 .1 .1 .1 .1 .1 .0 .now) (e .1 .1 .1 .1 .1 .1 .1 .0 .now))
 bellkettle-write-promised = refl
+
+bellkettle-replay-promised : bellkettle_replay.Learnt ≡ (λ κs a r e. ReplayAsked (a .0 .now) (a .1 .0 .now) r (a .1 .1 .1 .0 .now) (e .1 .1 .1 .0 .now) (a .1 .1 .0 .now) (e .1 .1 .0 .now))
+bellkettle-replay-promised = refl
 
 -- Of a call that is lent a struct no plain reading is made; its clause itself is the predicate.
 module _ {M : Type 1} (𝓤 : URA M) (H : Heap 𝓤) (A : Atoms 𝓤) (at-mem : Memory → SProp 𝓤) (run : Routine → Fun 𝓤) where

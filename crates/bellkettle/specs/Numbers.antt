@@ -1,8 +1,10 @@
 -- Answers as a program in C gets them: a number that is returned, and values. Quotations are from document 01.
+use mathlib.Core.Bool.{Bool, true, cond}
 use mathlib.Core.List.{List, [], _∷_, _++_, map}
 use Prim.Native.Nat.{ℕ}
+use lib.Dec.{eqb}
 use lib.IntN.{ℤ, pos}
-use Rattle.answers.specs.Answers.{Answer, given, refused, after}
+use Rattle.answers.specs.Answers.{Answer, given, refused, after, refusal}
 use Rattle.sheet.specs.declared.Sheet.{Sheet}
 use Rattle.schedule.specs.declared.answer.Totals.{Totals}
 use Rattle.schedule.specs.Calls.{responsesOf}
@@ -11,6 +13,13 @@ use Rattle.recurrence.specs.Calls.{quickOf}
 use Rattle.chain.specs.declared.answer.Figure.{Figure}
 use Rattle.chain.specs.declared.answer.Summary.{Summary}
 use Rattle.chain.specs.Calls.{delayOf, marginOf, defaultMarginOf, figuresOf}
+use Rattle.night.specs.declared.answer.Longest.{Longest}
+use Rattle.night.specs.declared.answer.Longest.the-variants.{Nothing, Delay as LongestDelay}
+use Rattle.night.specs.declared.answer.Break.{Break}
+use Rattle.night.specs.declared.answer.Break.the-variants.{Nowhere, At}
+use Rattle.night.specs.declared.answer.Replayed.{Replayed}
+use Rattle.night.specs.declared.answer.Replay.{Replay}
+use Rattle.night.specs.declared.answer.Replay.the-variants.{Of, No}
 use Rattle.bellkettle.specs.declared.Question.{Question}
 use Rattle.bellkettle.specs.declared.Question.the-variants.{Responses, Delay, Margin, DefaultMargin, Figures}
 
@@ -63,3 +72,32 @@ answerTo (Figures number) room s = inNumbers summaryNumbers (figuresOf s number 
 -- What it answers with no table.
 abbrev pub quickTo : ℕ → Sheet → Answer (List ℤ)
 quickTo number s = inNumbers boundsNumbers (quickOf s number)
+
+-- ---- the replay of a log (document 02, P6)
+
+-- Whether there is one, 1 or 0, and what it is: zeros where there is none.
+abbrev pub longestNumbers : Longest → List ℤ
+longestNumbers Nothing = pos 0 ∷ pos 0 ∷ pos 0 ∷ []
+longestNumbers (LongestDelay ticks job) = pos 1 ∷ pos ticks ∷ pos job ∷ []
+
+abbrev pub breakNumbers : Break → List ℤ
+breakNumbers Nowhere = pos 0 ∷ pos 0 ∷ []
+breakNumbers (At place) = pos 1 ∷ pos place ∷ []
+
+abbrev pub replayedNumbers : Replayed → List ℤ
+replayedNumbers r = alone (r .records) ++ alone (r .paths) ++ longestNumbers (r .longest) ++ breakNumbers (r .breaking) ++ figureNumbers (r .figure)
+
+-- Which file is refused, 0 the sheet and 1 the log: of a sheet that was read 1 and 9 are past, so that they are the log's.
+abbrev pub fileOf : Bool → ℕ → ℕ
+fileOf read number = cond read (cond (eqb number 1) 1 (cond (eqb number 9) 1 0)) 0
+
+-- A refusal that returns a value returns the file behind it.
+abbrev pub withFile : {A : Type 0} → Bool → Answer A → Answer A
+withFile read (given a) = given a
+withFile read (refused number []) = refused number []
+withFile read (refused number (value ∷ values)) = refused number (value ∷ fileOf read number ∷ [])
+
+-- What a replay answers of a sheet that was read.
+abbrev pub toldOf : Replay → Answer (List ℤ)
+toldOf (Of r) = given (replayedNumbers r)
+toldOf (No r) = withFile true (refusal r)

@@ -1,5 +1,6 @@
 -- What the calls promise: the number that is returned, and what is left in each slice that was lent.
 use mathlib.Core.Path.{_≡_}
+use mathlib.Core.Bool.{false}
 use mathlib.Core.List.{List}
 use Prim.Native.Nat.{ℕ}
 use lib.IntN.{ℤ}
@@ -10,11 +11,13 @@ use Rattle.sheet.specs.declared.Sheet.{Sheet}
 use Rattle.sheet.specs.Calls.{readOf, writeOf, bufferAfter}
 use Rattle.sheet.specs.Tasks.{tasksOf}
 use Rattle.schedule.specs.Calls.{tableAfter}
+use Rattle.night.specs.declared.answer.Replay.{Replay}
+use Rattle.night.specs.Promises.{ReplayPromise}
 use Rattle.telltale.specs.declared.Record.{Record}
 use Rattle.telltale.specs.Calls.{stampOf, recordAfter}
 use Rattle.telltale.specs.Promises.{BeginPromise}
 use Rattle.bellkettle.specs.declared.Question.{Question}
-use Rattle.bellkettle.specs.Numbers.{numberOf, valuesOf, inNumbers, alone, countNumbers, answerTo, quickTo}
+use Rattle.bellkettle.specs.Numbers.{numberOf, valuesOf, inNumbers, alone, countNumbers, answerTo, quickTo, withFile, toldOf}
 use Rattle.bellkettle.specs.Fields.{periodsIn, budgetsIn, ranksIn, limitsIn, lengthsIn, entriesIn, spread, sheetFrom}
 
 -- The number of an answer is returned, and its values stand at the front of the lent slice, as many as it has places for.
@@ -64,6 +67,16 @@ abbrev pub SheetWritten : ℕ → List ℕ → List ℕ → List ℕ → List �
 SheetWritten edition periods budgets ranks limits lengths entries returned old-values values old out =
     let s = sheetFrom edition periods budgets ranks limits lengths entries in
     Returned (sizeFor s (length old)) returned old-values values × (out ≡ bufferAfter (writeOf s (length old)) s old)
+
+-- A log is held to the sheet that was read: what is returned and left is what the replay answers and leaves.
+abbrev pub ReplayOf : Answer Sheet → List ℕ → ℕ → List ℤ → List ℤ → List ℕ → List ℕ → Type 0
+ReplayOf (given s) log returned old-values values old-table table =
+    (answer : Replay) × Returned (toldOf answer) returned old-values values × ReplayPromise s log old-table answer table
+ReplayOf (refused number bits) log returned old-values values old-table table =
+    Returned (withFile false (refused number bits)) returned old-values values × (table ≡ old-table)
+
+abbrev pub ReplayAsked : List ℕ → List ℕ → ℕ → List ℤ → List ℤ → List ℕ → List ℕ → Type 0
+ReplayAsked bytes log returned old-values values old-table table = ReplayOf (readOf bytes) log returned old-values values old-table table
 
 -- The tell-tale's record, was before the call and left after it.
 abbrev pub RecordBegun : Record → ℕ → Record → Type 0

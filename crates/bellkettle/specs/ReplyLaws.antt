@@ -1,6 +1,6 @@
 -- The laws of replies: what is handed over is the answer's, and lent memory is left as the answer says.
-use mathlib.Core.Path.{_≡_, refl, sym, ap, _∙_, subst}
-use mathlib.Core.List.{List, [], _∷_}
+use mathlib.Core.Path.{_≡_, refl, sym, ap, ap₂, _∙_, subst}
+use mathlib.Core.List.{List, [], _∷_, _++_}
 use Prim.Native.Nat.{ℕ, zero, suc, _+_, _<_}
 use native.Mathlib.Omega.{arith}
 use lib.IntN.{ℤ}
@@ -17,10 +17,13 @@ use Rattle.sheet.specs.Answers.{toldSheet}
 use Rattle.theory.specs.declared.Task.{Task}
 use Rattle.sheet.specs.Tasks.{tasksOf}
 use Rattle.schedule.specs.Calls.{tableAfter}
+use Rattle.night.specs.declared.answer.Replayed.{Replayed}
 use Rattle.bellkettle.specs.declared.Reply.{Reply}
-use Rattle.bellkettle.specs.Numbers.{inNumbers}
+use Rattle.bellkettle.specs.declared.LongestTold.{LongestTold}
+use Rattle.bellkettle.specs.declared.BreakTold.{BreakTold}
+use Rattle.bellkettle.specs.Numbers.{inNumbers, alone, figureNumbers, longestNumbers, breakNumbers, replayedNumbers}
 use Rattle.bellkettle.specs.Promises.{Returned}
-use Rattle.bellkettle.specs.Replies.{valuesTold, Tells}
+use Rattle.bellkettle.specs.Replies.{valuesTold, Tells, longestTold, breakTold}
 
 -- A reply tells one answer, by whatever name.
 pub tells-as : {reply : Reply} {a b : Answer (List ℤ)} → Tells reply a → a ≡ b → Tells reply b
@@ -41,6 +44,11 @@ pub told-left : {A : Type 0} {reply : Reply} {told answer : Answer A} (numbers :
     → Tells reply (inNumbers numbers told) → told ≡ answer → table ≡ tableAfter answer (tasksOf s) old
     → Tells reply (inNumbers numbers answer) × (table ≡ tableAfter (inNumbers numbers answer) (tasksOf s) old)
 told-left {answer = answer} numbers s old t e l = (tells-as t (ap (inNumbers numbers) e), l ∙ leaves-told answer numbers (tasksOf s) old)
+
+-- The longest delay and the break of a replay stand in their places.
+pub replayed-told : (r : Replayed) (l : LongestTold) (b : BreakTold) → longestTold l ≡ longestNumbers (r .longest) → breakTold b ≡ breakNumbers (r .breaking)
+    → alone (r .records) ++ alone (r .paths) ++ longestTold l ++ breakTold b ++ figureNumbers (r .figure) ≡ replayedNumbers r
+replayed-told r l b p q = ap₂ (λ x y. alone (r .records) ++ alone (r .paths) ++ x ++ y ++ figureNumbers (r .figure)) p q
 
 -- ---- bytes that were read
 

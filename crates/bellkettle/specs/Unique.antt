@@ -1,11 +1,17 @@
 -- One returned number and one content of lent memory for each input of each call.
-use mathlib.Core.Path.{_≡_, sym, _∙_}
+use mathlib.Core.Path.{_≡_, sym, ap, _∙_}
 use mathlib.Core.List.{List}
 use Prim.Native.Nat.{ℕ}
 use lib.IntN.{ℤ}
+use lib.Seq.{sets}
+use Rattle.answers.specs.Answers.{Answer, given, refused}
+use Rattle.sheet.specs.declared.Sheet.{Sheet}
+use Rattle.sheet.specs.Calls.{readOf}
+use Rattle.night.specs.Unique.{replay-unique}
 use Rattle.telltale.specs.declared.Record.{Record}
 use Rattle.bellkettle.specs.declared.Question.{Question}
-use Rattle.bellkettle.specs.Promises.{SheetAsked, QuickAsked, SheetRead, SheetWritten, RecordBegun, RecordStamped}
+use Rattle.bellkettle.specs.Numbers.{numberOf, valuesOf, toldOf}
+use Rattle.bellkettle.specs.Promises.{SheetAsked, QuickAsked, SheetRead, SheetWritten, ReplayOf, ReplayAsked, RecordBegun, RecordStamped}
 
 -- Two ends that meet a call's promise are equal: the returned numbers x and y, the values v and w, what is left in the other slices.
 
@@ -38,6 +44,18 @@ pub write-unique : (edition : ℕ) (periods budgets ranks limits lengths entries
     → SheetWritten edition periods budgets ranks limits lengths entries x values v out t → SheetWritten edition periods budgets ranks limits lengths entries y values w out u
     → ((x ≡ y) × (v ≡ w)) × (t ≡ u)
 write-unique edition periods budgets ranks limits lengths entries x y values v w out t u p q = ((same (p .0 .0) (q .0 .0), same (p .0 .1) (q .0 .1)), same (p .1) (q .1))
+
+-- The answer of a replay is one, so what is told of it is.
+replay-of-unique : (source : Answer Sheet) (log : List ℕ) (x y : ℕ) (values v w : List ℤ) (table t u : List ℕ)
+    → ReplayOf source log x values v table t → ReplayOf source log y values w table u → ((x ≡ y) × (v ≡ w)) × (t ≡ u)
+replay-of-unique (given s) log x y values v w table t u (a, p, h) (b, q, g) =
+    let one = replay-unique s log table t u a b h g in
+    ((p .0 ∙ ap (λ r. numberOf (toldOf r)) (one .0) ∙ sym (q .0), p .1 ∙ ap (λ r. sets values 0 (valuesOf (toldOf r))) (one .0) ∙ sym (q .1)), one .1)
+replay-of-unique (refused number bits) log x y values v w table t u p q = ((same (p .0 .0) (q .0 .0), same (p .0 .1) (q .0 .1)), same (p .1) (q .1))
+
+pub replay-asked-unique : (bytes log : List ℕ) (x y : ℕ) (values v w : List ℤ) (table t u : List ℕ)
+    → ReplayAsked bytes log x values v table t → ReplayAsked bytes log y values w table u → ((x ≡ y) × (v ≡ w)) × (t ≡ u)
+replay-asked-unique bytes log x y values v w table t u p q = replay-of-unique (readOf bytes) log x y values v w table t u p q
 
 -- The tell-tale's record is left as r and as s.
 

@@ -7,6 +7,10 @@ use chain::Delay;
 use chain::Figures;
 use chain::Margin;
 use chain::Summary;
+use night::Break;
+use night::Longest;
+use night::Replay;
+use night::Replayed;
 use recurrence::Bounds;
 use recurrence::Quick;
 use schedule::Responses;
@@ -30,11 +34,12 @@ ghost use Rattle.schedule.specs.Calls.{toldTotals};
 ghost use Rattle.schedule.specs.Calls.{tableAfter};
 ghost use Rattle.recurrence.specs.Calls.{toldQuick};
 ghost use Rattle.chain.specs.Calls.{toldDelay, toldMargin, toldFigures};
-ghost use Rattle.bellkettle.specs.Numbers.{inNumbers, alone, signed, totalsNumbers, summaryNumbers, boundsNumbers, countNumbers, answerTo};
+ghost use Rattle.bellkettle.specs.Numbers.{inNumbers, alone, signed, totalsNumbers, summaryNumbers, boundsNumbers, countNumbers, answerTo, replayedNumbers, fileOf, withFile, toldOf};
 ghost use Rattle.bellkettle.specs.Fields.{periodsIn, budgetsIn, ranksIn, limitsIn, lengthsIn, entriesIn, spread, counted, tasksCounted, chainsCounted, taskFrom, chainFrom, sheetFrom};
-ghost use Rattle.bellkettle.specs.Promises.{Returned, SheetAsked, QuickAsked, SheetRead, SheetWritten, RecordBegun, RecordStamped};
+ghost use Rattle.bellkettle.specs.Promises.{Returned, SheetAsked, QuickAsked, SheetRead, SheetWritten, ReplayAsked, RecordBegun, RecordStamped};
 ghost use Rattle.telltale.specs.Calls.{toldElapsed};
-ghost use Rattle.bellkettle.specs.Replies.{mostValues, valuesTold, Tells, sizeIn};
+ghost use Rattle.bellkettle.specs.Replies.{mostValues, valuesTold, Tells, sizeIn, longestTold, breakTold};
+ghost use Rattle.bellkettle.specs.Numbers.{longestNumbers, breakNumbers};
 
 // What is asked of a sheet, or of the chain of a number.
 enum Question {
@@ -637,6 +642,132 @@ pub extern "C" fn bellkettle_write(
     let s = sheet_from(edition, periods, budgets, ranks, limits, lengths, entries);
     let written = sheet::write(s, &mut *out);
     hand(written_reply(written), &mut *values)
+}
+
+// The replay of a log (document 02, P6). Its bytes are lent beside the sheet's.
+
+// The longest delay and the break as numbers: whether there is one, 1 or 0, and what it is, zeros where there is none.
+struct LongestTold {
+    there: u32,
+    ticks: u32,
+    job: u32,
+}
+
+struct BreakTold {
+    there: u32,
+    place: u32,
+}
+
+fn longest_told(l: Longest) -> LongestTold
+    ensures { λ r. ⌜ longestTold r ≡ longestNumbers l ⌝ }
+{
+    let Longest::Delay(ticks, job) = l else {
+        return LongestTold {
+            there: 0,
+            ticks: 0,
+            job: 0,
+        };
+    };
+    LongestTold {
+        there: 1,
+        ticks,
+        job,
+    }
+}
+
+fn break_told(b: Break) -> BreakTold
+    ensures { λ r. ⌜ breakTold r ≡ breakNumbers b ⌝ }
+{
+    let Break::At(record) = b else {
+        return BreakTold { there: 0, place: 0 };
+    };
+    BreakTold {
+        there: 1,
+        place: record,
+    }
+}
+
+fn replayed_numbers(r: Replayed) -> Reply
+    ensures { λ reply. ⌜ Tells reply (given (replayedNumbers r)) ⌝ }
+{
+    let found = r.longest;
+    let broken = r.breaking;
+    let longest = longest_told(found);
+    let breaking = break_told(broken);
+    Reply {
+        number: 0,
+        count: 9,
+        values: [
+            wide(r.records),
+            wide(r.paths),
+            wide(longest.there),
+            wide(longest.ticks),
+            wide(longest.job),
+            wide(breaking.there),
+            wide(breaking.place),
+            wide(r.figure.ticks),
+            wide(r.figure.release),
+        ],
+    }
+}
+
+// Which file is refused, 0 the sheet and 1 the log: once the sheet is read 1 and 9 are the log's.
+fn file_of(read: bool, number: u8) -> u32
+    ensures { λ file. ⌜ file ≡ fileOf read number ⌝ }
+{
+    if !read {
+        return 0;
+    }
+    if number == 1 {
+        return 1;
+    }
+    if number == 9 {
+        return 1;
+    }
+    0
+}
+
+// A refusal, and behind the value that comes with it the file.
+fn refuse_in(read: bool, r: Refusal) -> Reply
+    ensures { λ reply. ⌜ Tells reply (withFile read (refusal r)) ⌝ }
+{
+    let Refusal::With(number, x) = r else {
+        return refuse(r);
+    };
+    let file = file_of(read, number);
+    Reply {
+        number,
+        count: 2,
+        values: [wide(x), wide(file), 0, 0, 0, 0, 0, 0, 0],
+    }
+}
+
+fn replay_reply(r: Replay) -> Reply
+    ensures { λ reply. ⌜ Tells reply (toldOf r) ⌝ }
+{
+    let Replay::Of(replayed) = r else {
+        return refuse_in(true, night::replay_refusal(r));
+    };
+    replayed_numbers(replayed)
+}
+
+// Does the log agree with the sheet, and what delays does it show?
+#[no_mangle]
+pub extern "C" fn bellkettle_replay(
+    sheet: &[u8],
+    log: &[u8],
+    table: &mut [u32],
+    values: &mut [i64],
+) -> u8
+    ensures { λ r. ⌜ ReplayAsked (now (sheet .entry)) (now (log .entry)) r (now (values .entry)) (now (values .exit)) (now (table .entry)) (now (table .exit)) ⌝ }
+{
+    let reading = sheet::read(sheet);
+    let verdict = reading.verdict;
+    let Verdict::Fine = verdict else {
+        return hand(refuse_in(false, answers::refusal_of(verdict)), &mut *values);
+    };
+    let answer = night::replay(reading.sheet, log, &mut *table);
+    hand(replay_reply(answer), &mut *values)
 }
 
 // The tell-tale (document 02, P13). Its record is a struct of the program in C, which lends it where it stands.

@@ -28,6 +28,10 @@ use chain::TaskFigures;
 use lower::Comparison;
 use lower::Difference;
 use lower::Which;
+use night::Break;
+use night::Longest;
+use night::Replay;
+use night::Replayed;
 use recurrence::Bounds;
 use recurrence::Quick;
 use recurrence::QuickBound;
@@ -240,6 +244,39 @@ fn put_quick_suite(out: &mut [u8], suite: QuickSuite) -> usize {
     put_bounds(out, next, chains)
 }
 
+// Whether there is one, its ticks and its job.
+fn put_longest(out: &mut [u8], at: usize, l: Longest) -> usize {
+    match l {
+        Longest::Nothing => put_words(out, at, &[0, 0, 0]),
+        Longest::Delay(ticks, job) => put_words(out, at, &[1, ticks, job]),
+    }
+}
+
+// Whether there is one, and which.
+fn put_break(out: &mut [u8], at: usize, b: Break) -> usize {
+    match b {
+        Break::Nowhere => put_words(out, at, &[0, 0]),
+        Break::At(record) => put_words(out, at, &[1, record]),
+    }
+}
+
+fn put_replayed(out: &mut [u8], r: Replayed) -> usize {
+    let first = two(&mut *out, r.records, r.paths);
+    let longest = r.longest;
+    let second = put_longest(&mut *out, first, longest);
+    let breaking = r.breaking;
+    let third = put_break(&mut *out, second, breaking);
+    let figure = r.figure;
+    put_words(out, third, &[figure.ticks, figure.release])
+}
+
+fn put_replay(out: &mut [u8], a: Replay) -> usize {
+    match a {
+        Replay::Of(replayed) => put_replayed(out, replayed),
+        Replay::No(r) => refused(out, r),
+    }
+}
+
 // Whether it is below zero, and how far from zero it is.
 fn put_signed(out: &mut [u8], at: usize, z: i32) -> usize {
     let next = put_word(&mut *out, at, below_zero(z));
@@ -332,6 +369,32 @@ fn of_bytes(q: Request, bytes: &[u8], lent: &mut [u8], table: &mut [u32], out: &
     of_sheet(q.call, q.first, chain_named(q), s, lent, table, out)
 }
 
+fn of_sheet_and_log(
+    form: u32,
+    bytes: &[u8],
+    log: &[u8],
+    table: &mut [u32],
+    out: &mut [u8],
+) -> usize {
+    if form == 0 {
+        let r = sheet::read(bytes);
+        let v = r.verdict;
+        let Verdict::Fine = v else {
+            return put_verdict(out, v);
+        };
+        return put_replay(out, night::replay(r.sheet, log, table));
+    }
+    put_replay(out, night::replay(sheet_in(bytes), log, table))
+}
+
+// The log follows the sheet, which has so many bytes.
+fn of_log(form: u32, size: usize, bytes: &[u8], table: &mut [u32], out: &mut [u8]) -> usize {
+    if size > bytes.len() {
+        return accepted(out);
+    }
+    of_sheet_and_log(form, &bytes[..size], &bytes[size..], table, out)
+}
+
 fn of_call(q: Request, sheet: &[u8], lent: &mut [u8], table: &mut [u32], out: &mut [u8]) -> usize {
     let call = q.call;
     match call {
@@ -341,6 +404,7 @@ fn of_call(q: Request, sheet: &[u8], lent: &mut [u8], table: &mut [u32], out: &m
         7 => of_reading(sheet, out),
         8 => one(out, arith::greatest(&*table)),
         23 => of_run(q.first, sheet, out),
+        27 => of_log(q.form, q.first as usize, sheet, table, out),
         _ => {
             if q.form == 0 {
                 return of_bytes(q, sheet, lent, table, out);
@@ -417,10 +481,10 @@ fn turn(sheet: &mut [u8], content: &mut [u8], table: &mut [u32], out: &mut [u8])
     )
 }
 
-// The content and the table are so large that an answer with either still fits in a large buffer. Turns are counted so that the
+// The sheet's buffer holds the longest log too. The content and the table are so large that an answer with either still fits in a large buffer. Turns are counted so that the
 // loop is known to end; no run takes so many.
 fn main() {
-    let mut sheet = io::buffer();
+    let mut sheet = io::large_buffer();
     let mut content = [0u8; 65000];
     let mut table = [0u32; 8400];
     let mut out = io::large_buffer();

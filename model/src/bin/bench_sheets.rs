@@ -1,7 +1,11 @@
 //! The sheets of the benchmark, written into the folder that is named, with the requests of the probe that are measured, and a line
-//! for each: group, name, n, H, J and chain length; in the group climb n, the steps of all searches and the chain length.
+//! for each: group, name, n, H, J and chain length; in the group climb n, the steps of all searches and the chain length, in the group log n,
+//! the chain length and the records of the log beside the sheet.
 
+use model::log::encoded;
+use model::nights::true_records;
 use model::probe::{Call, Handed, Lent, Request};
+use model::random::Random;
 use model::recurrence::climb;
 use model::schedule::hyperperiod;
 use model::sheet::{chain, memory, suite, unjudged, Memory, Task};
@@ -42,6 +46,15 @@ impl Sheets {
         println!("climb {name} {} {steps} {}", tasks.len(), chain_lengths(s));
     }
 
+    /// A log of a night with demands by chance, across the rollover, and one of no records beside it.
+    fn add_log(&self, name: &str, s: &Memory, records: usize) {
+        let night = true_records(&mut Random::new(4), s.tasks(), records);
+        self.write(name, ".log", &encoded(0u32.wrapping_sub(night[records / 2].tick), &night));
+        self.write(name, ".no-log", &encoded(0, &[]));
+        self.write(name, "", &unjudged(s));
+        println!("log {name} {} {} {records}", s.tasks().len(), chain_lengths(s));
+    }
+
     fn write(&self, name: &str, part: &str, bytes: &[u8]) {
         std::fs::write(self.folder.join(format!("{name}.sheet{part}")), bytes).expect("the folder can be written to");
     }
@@ -58,7 +71,7 @@ fn chain_lengths(s: &Memory) -> String {
 /// A call on the first chain, with a table of zeros that has as many entries as it needs.
 fn request(call: Call, sheet: &[u8], jobs: u32) -> Vec<u8> {
     let lent = Lent::Table { room: jobs as usize, words: vec![] };
-    Request { call, numbers: [0, 1, 0], sheet: Handed::Bytes(sheet.to_vec()), lent }.bytes()
+    Request { call, numbers: [0, 1, 0], sheet: Handed::Bytes(sheet.to_vec()), log: vec![], lent }.bytes()
 }
 
 /// The same request with a number that is no call's, for which the probe reads the sheet and answers nothing.
@@ -142,4 +155,12 @@ fn main() {
     sheets.add_climb("full-odd", &memory(&rate_monotonic(&full.map(|period| period - 1)), &straight(16)));
     sheets.add_climb("longest", &falling(&LONGEST_CLIMB));
     sheets.add_climb("longest-late", &falling(&LONGEST_LATE_CLIMB));
+
+    for records in [1_000, 2_000, 4_095] {
+        sheets.add_log(&format!("radio-{records}"), &memory(&radio, &[0, 1, 2]), records);
+    }
+    sheets.add_log("lone-4095", &memory(&[task(5, 5, 1)], &[0]), 4_095);
+    sheets.add_log("full-4095", &memory(&rate_monotonic(&full), &straight(16)), 4_095);
+    sheets.add_log("full-back-4095", &memory(&rate_monotonic(&full), &back), 4_095);
+    sheets.add_log("full-short-4095", &memory(&rate_monotonic(&full), &[0]), 4_095);
 }

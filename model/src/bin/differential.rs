@@ -4,6 +4,7 @@
 //!
 //! The same seed repeats the same requests. The first difference is printed in words and ends the run with status 1.
 
+use model::bits::number;
 use model::experiment::{experiment, experiment_with_bounds, Claim, Followed};
 use model::generate::{odd_sheet, request, sheet, some_chain};
 use model::probe::{answer, readable, run_calls, words, Answer, Call, Handed, Lent, Probe, Request, CALLS};
@@ -64,8 +65,8 @@ impl Run {
 #[derive(Default)]
 struct Met {
     accepted: [u64; CALLS.len()],
-    refused: [[u64; 19]; CALLS.len()],
-    /// Each number that comes with a bit, and that bit.
+    refused: [[u64; 22]; CALLS.len()],
+    /// Each number that comes with a bit of a sheet, and that bit.
     places: BTreeSet<(u8, u32)>,
     over: u64,
     /// Of the sheets whose fields are fine, in bytes and in memory: edition and number of chains.
@@ -92,6 +93,73 @@ struct Met {
     rolled_over: u64,
     greatest_time: u64,
     full_count: u64,
+    nights: Nights,
+}
+
+/// Of the replays that were answered: how many logs agree and how many break, at the first record and later; how many have a path and how
+/// many have none; how many reach the sampling figure; how many roll over, have no record, and have as many as can be. And of the logs that
+/// were refused with 1 and with 9, how many.
+#[derive(Default)]
+struct Nights {
+    agree: u64,
+    at_once: u64,
+    later: u64,
+    paths: u64,
+    no_path: u64,
+    reached: u64,
+    rollovers: u64,
+    empty: u64,
+    longest: u64,
+    ended: u64,
+    surplus: u64,
+}
+
+impl Nights {
+    fn note(&mut self, q: &Request, a: &Answer) {
+        match (a.refusal, &a.values[..]) {
+            (None, &[records, paths, _, delay, _, breaks, record, figure, _]) => {
+                self.agree += u64::from(breaks == 0);
+                self.at_once += u64::from(breaks == 1 && record == 0);
+                self.later += u64::from(record > 0);
+                self.paths += u64::from(paths > 0);
+                self.no_path += u64::from(paths == 0);
+                self.reached += u64::from(paths > 0 && delay == figure);
+                let number = |at| number(&q.log, at, 32);
+                self.rollovers += u64::from(records > 0 && number(44 + 37 * (records - 1) + 5) < number(0));
+                self.empty += u64::from(records == 0);
+                self.longest += u64::from(records == 4_095);
+            }
+            // Bytes of a sheet that are refused are no sheet.
+            (Some(r), _) if q.sheet.memory().is_some() => {
+                self.ended += u64::from(r.number == 1);
+                self.surplus += u64::from(r.number == 9);
+            }
+            _ => (),
+        }
+    }
+
+    fn print(&self) {
+        println!(
+            "  logs: {} agree, {} break at once, {} later; {} with paths, {} without, {} as long as the figure; {} roll over, {} empty, {} longest",
+            self.agree, self.at_once, self.later, self.paths, self.no_path, self.reached, self.rollovers, self.empty, self.longest
+        );
+    }
+
+    fn each(&self) -> [(u64, &'static str); 11] {
+        [
+            (self.agree, "a log that agrees"),
+            (self.at_once, "a log that breaks at its first record"),
+            (self.later, "a log that breaks later"),
+            (self.paths, "a log with a path"),
+            (self.no_path, "a log without a path"),
+            (self.reached, "a path as long as the sampling figure"),
+            (self.rollovers, "a log that rolls over"),
+            (self.empty, "a log of no records"),
+            (self.longest, "a log of 4,095 records"),
+            (self.ended, "a log that ends inside a field"),
+            (self.surplus, "a log with something behind it"),
+        ]
+    }
 }
 
 impl Met {
@@ -101,7 +169,8 @@ impl Met {
             None => self.accepted[at] += 1,
             Some(r) => {
                 self.refused[at][r.number as usize] += 1;
-                self.places.extend(r.value.filter(|_| r.number <= 9).map(|bit| (r.number, bit)));
+                let of_log = q.call == Call::Replay && [1, 9].contains(&r.number);
+                self.places.extend(r.value.filter(|_| r.number <= 9 && !of_log).map(|bit| (r.number, bit)));
             }
         }
         self.over += u64::from(q.call == Call::Lcm && a.values[0] == 0);
@@ -110,6 +179,9 @@ impl Met {
         }
         if let (Call::QuickBound, Some(s)) = (q.call, q.sheet.memory()) {
             self.note_quick(&s, a);
+        }
+        if q.call == Call::Replay {
+            self.nights.note(q, a);
         }
         let on_a_sheet = q.call as u32 >= Call::Judge as u32 && q.call != Call::Telltale;
         if let Some(s) = q.sheet.memory().filter(|s| on_a_sheet && judge(s).is_ok()) {
@@ -171,7 +243,7 @@ impl Met {
             let refused: u64 = self.refused[at].iter().sum();
             println!("  {name:<16}{:>7} requests{accepted:>7} accepted{refused:>7} refused", accepted + refused);
         }
-        let numbers: Vec<String> = (1..=18).map(|n| format!("{n}: {}", self.with_number(n))).collect();
+        let numbers: Vec<String> = (1..=21).map(|n| format!("{n}: {}", self.with_number(n))).collect();
         println!("  refusals by number: {}", numbers.join(", "));
         let bits: Vec<String> = (1..=9).map(|n| format!("{n}: {}", self.bits_with(n))).collect();
         println!("  different bits by number: {}", bits.join(", "));
@@ -197,6 +269,7 @@ impl Met {
             "  tell-tale: 25 {} times, 26 {}, across the rollover {}, the greatest time {}, count 65,535 {}",
             self.none_underway, self.too_long, self.rolled_over, self.greatest_time, self.full_count
         );
+        self.nights.print();
     }
 
     /// Everything that the calls can answer, and that was not met.
@@ -233,7 +306,7 @@ impl Met {
             (self.greatest_time, "the greatest elapsed time"),
             (self.full_count, "a count of 65,535"),
         ];
-        missing.extend(once.into_iter().filter(|(times, _)| *times == 0).map(|(_, what)| what.into()));
+        missing.extend(once.into_iter().chain(self.nights.each()).filter(|(times, _)| *times == 0).map(|(_, what)| what.into()));
         missing
     }
 }
@@ -269,7 +342,7 @@ fn ask(probe: &mut Probe, call: Call, s: &Memory, number: u8) -> Vec<u32> {
         Call::QuickBound => Lent::Bytes(vec![]),
         _ => Lent::Table { room: 8_192, words: vec![] },
     };
-    let q = Request { call, numbers: [0, number.into(), 0], sheet: Handed::Memory(*s), lent };
+    let q = Request { call, numbers: [0, number.into(), 0], sheet: Handed::Memory(*s), log: vec![], lent };
     words(&asked(probe, &q, || ()).0)
 }
 

@@ -1,12 +1,60 @@
 //! The sample sheets of both editions, document 01's, one for each refusal and some more, with the report and the quick bound of each; what
-//! is said of some pairs of them; and what the programs are run on.
+//! is said of some pairs of them; logs of Radio's clock with what a replay prints of each; and what the programs are run on.
 
-use model::report::{bound, compare, converted, report};
+use model::log::{encoded as log_of, fields, raw_bits as log_bits, Fields, Record};
+use model::nights::{true_records, MOST};
+use model::random::Random;
+use model::replay::first_events;
+use model::report::{bound, compare, converted, replayed, report};
 use model::sheet::{chain, encoded, marked_bits, packed, raw_bits, suite, Memory, Task};
 use model::store;
 
 fn tasks(list: &[(u32, u32, u8)]) -> Vec<Task> {
     list.iter().map(|&(period, budget, rank)| Task { period, budget, rank }).collect()
+}
+
+/// Logs of Radio's clock: of true nights, with a lie in them, and one or more for each refusal.
+fn radio_logs(radio: &[Task]) -> Vec<(&'static str, Vec<u8>)> {
+    let full = first_events(radio, 40, |i, _| radio[i].budget);
+    let night = true_records(&mut Random::new(9), radio, 100);
+    let lied = |lie: fn(&mut Vec<Record>)| {
+        let mut records = full.clone();
+        lie(&mut records);
+        log_of(1_000, &records)
+    };
+    let spoilt = |count: u32, spoil: fn(&mut Vec<Fields>)| {
+        let mut all: Vec<Fields> = full[..4].iter().map(|r| fields(1_000, r)).collect();
+        spoil(&mut all);
+        packed(&log_bits(1_000, count, &all))
+    };
+    let whole = spoilt(4, |_| ());
+    vec![
+        ("night", log_of(2_586_000, &night)),
+        ("full", log_of(0, &full)),
+        ("two", log_of(u32::MAX, &full[..2])),
+        // The counter passes its top value between the ticks 29 and 30, on a finish.
+        ("rollover", log_of(0u32.wrapping_sub(29), &full)),
+        ("empty", log_of(60, &[])),
+        ("longest", log_of(0, &true_records(&mut Random::new(7), radio, MOST))),
+        // Task 2 finishes its first job a tick past its budget, and everything after it is a tick later.
+        ("breaks", lied(|all| all[3..].iter_mut().for_each(|r| r.tick += 1))),
+        ("breaks-at-once", lied(|all| all.iter_mut().for_each(|r| r.tick += 1))),
+        ("breaks-in-the-middle", lied(|all| all[30].tick += 1)),
+        // A finish and a start on one tick, in the wrong order.
+        ("breaks-on-one-tick", lied(|all| all.swap(1, 2))),
+        ("refused-1-cut-short", whole[..whole.len() - 1].to_vec()),
+        ("refused-1-no-bytes", vec![]),
+        ("refused-1-count", spoilt(5, |_| ())),
+        ("refused-9-padding", packed(&format!("{}0010", log_bits(1_000, 0, &[])))),
+        ("refused-9-surplus", [whole, vec![0]].concat()),
+        ("refused-9-count", spoilt(3, |_| ())),
+        ("refused-19-index", spoilt(4, |all| all[2].task = 3)),
+        ("refused-20-start", spoilt(4, |all| all[1].kind = 0)),
+        ("refused-20-finish", spoilt(4, |all| all[2].kind = 1)),
+        ("refused-21-order", spoilt(4, |all| all[2].counter -= 1)),
+        ("refused-21-difference", spoilt(4, |all| all[3].counter += 1 << 31)),
+        ("refused-21-time", spoilt(4, |all| (1..4).for_each(|r| all[r].counter += r as u32 * 750_000_000))),
+    ]
 }
 
 fn main() {
@@ -111,6 +159,11 @@ fn main() {
         files.push((format!("samples/{name}.report"), report(bytes).into_bytes()));
         files.push((format!("samples/{name}.bound"), bound(bytes).into_bytes()));
     }
+    for (name, log) in radio_logs(&radio) {
+        let replay = replayed(&encoded(&radio, &[0, 1, 2]), &log).into_bytes();
+        files.push((format!("samples/radio-{name}.replay"), replay));
+        files.push((format!("samples/radio-{name}.log"), log));
+    }
     let named = |name| &sheets.iter().find(|sheet| sheet.0 == name).unwrap().1;
     let (radio, odd) = (named("radio"), named("odd"));
     for (old, new) in pairs {
@@ -124,6 +177,9 @@ fn main() {
     files.push(("crates/bound/stdout".into(), bound(odd).into_bytes()));
     files.push(("crates/convert/stdin".into(), [b"2", &radio[..]].concat()));
     files.push(("crates/convert/stdout".into(), converted(2, radio).expect("Radio converts")));
+    // Where it is run after its proof no file descriptor 3 is open, which is a log of no bytes.
+    files.push(("crates/replay/stdin".into(), radio.clone()));
+    files.push(("crates/replay/stdout".into(), replayed(radio, &[]).into_bytes()));
     let files: Vec<(&str, Vec<u8>)> = files.iter().map(|(name, content)| (name.as_str(), content.clone())).collect();
     store(&files);
 }

@@ -8,7 +8,7 @@ use Rattle.probe.proofs.main.Tie as tie
 
 abbrev Inv-loop : tie.InvT-loop
 Inv-loop sheet₀ content₀ table₀ out₀ turns₀ sheet content table out turns =
-    (turns ≤ 4294967295) × (4096 ≡ length sheet) × (65000 ≡ length content) × (8400 ≡ length table) × (65536 ≡ length out)
+    (turns ≤ 4294967295) × (65536 ≡ length sheet) × (65000 ≡ length content) × (8400 ≡ length table) × (65536 ≡ length out)
 
 abbrev μ-loop : tie.MeasureT-loop
 μ-loop sheet₀ content₀ table₀ out₀ turns₀ sheet content table out turns = 4294967295 - turns

@@ -3,13 +3,13 @@
 ghost use Rattle.answers.specs.Promises.{RefusalOfPromise};
 
 // A number of document 01's table, alone or with a value: 1 to 9 come with the bit at which the judged field begins, 15 with the late task.
-#[derive(Drop)]
+#[derive(Clone, Copy)]
 pub enum Refusal {
     Number(u8),
     With(u8, u32),
 }
 
-#[derive(Drop)]
+#[derive(Clone, Copy)]
 pub enum Verdict {
     Fine,
     No(Refusal),

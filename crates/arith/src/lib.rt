@@ -18,7 +18,7 @@ pub fn gcd(a: u32, b: u32) -> u32
 }
 
 // A least common multiple, or that it is over the limit asked for.
-#[derive(Drop)]
+#[derive(Clone, Copy)]
 pub enum Multiple {
     Is(u32),
     Over,

@@ -28,7 +28,7 @@ use telltale::{Elapsed, Record};
 use theory::Task;
 
 // What is asked of a sheet, or of the chain of a number.
-#[derive(Drop)]
+#[derive(Clone, Copy)]
 enum Question {
     Responses,
     Delay(u8, u32),
@@ -41,7 +41,7 @@ enum Question {
 const MOST_VALUES: usize = 9;
 
 // What is told: the number to return, and the values, which are the first `count` places.
-#[derive(Drop)]
+#[derive(Clone, Copy)]
 struct Reply {
     number: u8,
     count: usize,
@@ -635,14 +635,14 @@ pub extern "C" fn bellkettle_write(
 // The replay of a log (document 02, P6). Its bytes are lent beside the sheet's.
 
 // The longest delay and the break as numbers: whether there is one, 1 or 0, and what it is, zeros where there is none.
-#[derive(Drop)]
+#[derive(Clone, Copy)]
 struct LongestTold {
     there: u32,
     ticks: u32,
     job: u32,
 }
 
-#[derive(Drop)]
+#[derive(Clone, Copy)]
 struct BreakTold {
     there: u32,
     place: u32,

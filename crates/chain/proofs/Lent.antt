@@ -19,16 +19,16 @@ module _ {s : Sheet} (sound : Sound s) (number : ℕ) (known : lacks s number �
   same = ap (λ (x : Chain). x.length) is.0
 
   long : length (chain_of s number) ≡ (chain_at s number).length
-  long = chain_length sound number known (ap (λ (x : Chain). length x.entries) (sym is.0) ∙ is.1)
+  long = chain_length _ sound number known (ap (λ (x : Chain). length x.entries) (sym is.0) ∙ is.1)
 
   pub lent_count : c.length ≡ length (take c.length c.entries)
   lent_count = same ∙ sym long ∙ sym (ap length lent)
 
   pub lent_most : c.length ≤ length c.entries
-  lent_most = omega (arith, same, long, is.1, chain_most sound number known)
+  lent_most = omega (arith, same, long, is.1, chain_most _ sound number known)
 
   pub lent_some : 0 < length (chain_of s number)
-  lent_some = omega (arith, long, sound.length_least (number - 1) (chain_place sound number known))
+  lent_some = omega (arith, long, sound.length_least (number - 1) (chain_place _ sound number known))
 
   pub lent_first : get_or c.entries 0 0 ≡ first_of (chain_of s number)
   lent_first = sym (get_or-take c.length c.entries 0 0 (omega (arith, same, long, lent_some))) ∙ ap (λ xs. get_or xs 0 0) lent

@@ -148,7 +148,7 @@ margin_asked s number room limit h = rw (le-ltb most_limit limit h) (go (named s
 
 -- A chain on a sheet whose tasks are taken.
 pub sheet_chain : {s : Sheet} → Sound s → Taken (tasks_of s) → (number : ℕ) → lacks s number ≡ fine → TakenChain (tasks_of s) (chain_of s number)
-sheet_chain sound taken number known = record { tasks = taken; known = chain_known sound number known; few = chain_most sound number known }
+sheet_chain sound taken number known = record { tasks = taken; known = chain_known _ sound number known; few = chain_most _ sound number known }
 
 -- The answer of a chain's call is given for such a chain.
 pub filled_chain : (s : Sheet) (number room : ℕ) {totals : Totals} → lacks s number ≡ fine → responses_of s room ≡ given totals → TakenChain (tasks_of s) (chain_of s number)

@@ -86,8 +86,8 @@ pub planned_more : {s : Sheet} → Sound s → (i : ℕ) → i < s.count → {pl
 planned_more {s} sound i known {plan} from count g e q =
     record {
       whole = four_length plan i _ _ _ _ ∙ g.whole;
-      periods_are = below_more (λ j. period_in after j ≡ period (tasks_of s) j) i (λ j l. stays (4 * j) (omega arith) ∙ g.periods_are j l) (period_noted plan i _ _ _ _ room ∙ sym (period_at sound i known));
-      ranks_are = below_more (λ j. rank_in after j ≡ rank (tasks_of s) j) i (λ j l. stays (4 * j + 1) (omega arith) ∙ g.ranks_are j l) (rank_noted plan i _ _ _ _ room ∙ sym (rank_at_lem sound i known));
+      periods_are = below_more (λ j. period_in after j ≡ period (tasks_of s) j) i (λ j l. stays (4 * j) (omega arith) ∙ g.periods_are j l) (period_noted plan i _ _ _ _ room ∙ sym (period_at _ sound i known));
+      ranks_are = below_more (λ j. rank_in after j ≡ rank (tasks_of s) j) i (λ j l. stays (4 * j + 1) (omega arith) ∙ g.ranks_are j l) (rank_noted plan i _ _ _ _ room ∙ sym (rank_at_lem _ sound i known));
       starts_are = below_more (λ j. start_in after j ≡ sum j (jobs (tasks_of s))) i (λ j l. stays (4 * j + 2) (omega arith) ∙ g.starts_are j l) (start_noted plan i _ _ _ _ room ∙ e);
       counts_are = below_more (λ j. count_in after j ≡ jobs (tasks_of s) j) i (λ j l. stays (4 * j + 3) (omega arith) ∙ g.counts_are j l) (count_noted plan i _ _ _ _ room ∙ q);
     }

@@ -41,7 +41,7 @@ module _ (s : Sheet) (number : ℕ) where
           judged_fine = g.judged_fine;
           numbered_fine = known;
           none_passing = accepted_within g.accepted;
-          bounds_are = ap with_wait (quick_bound_same g.accepted.proper (first_of (chain_of s number)) (rest_of (chain_of s number)) (chain_known (judged_sound s g.judged_fine) number known));
+          bounds_are = ap with_wait (quick_bound_same g.accepted.proper (first_of (chain_of s number)) (rest_of (chain_of s number)) (chain_known _ (judged_sound s g.judged_fine) number known));
         })
 
     -- and each value is the greatest response in its task's row.
@@ -50,7 +50,7 @@ module _ (s : Sheet) (number : ℕ) where
         let g = responses_given s room e in
         let sound = judged_sound s g.judged_fine in
         ap (λ a. responses_after a s) (filled_quick e)
-        ∙ places_same 16 0 s.count (quick_response (tasks_of s)) (task_response (tasks_of s)) (λ i l m. quick_response_task g.accepted.proper i (omega (arith, tasks_length sound)))
+        ∙ places_same 16 0 s.count (quick_response (tasks_of s)) (task_response (tasks_of s)) (λ i l m. quick_response_task g.accepted.proper i (omega (arith, tasks_length _ sound)))
         ∙ sym (ap (λ a. greatest_after a s) e)
 
   -- Where `figures` answers, both bounds are its own.
@@ -72,7 +72,7 @@ module _ (s : Sheet) (number room : ℕ) {i : ℕ} where
   pub table_late_quick : lacks s number ≡ fine → responses_of s room ≡ refused 15 (i ∷ []) → quick_of s number ≡ refused 15 (i ∷ [])
   table_late_quick known answer =
       let w = responses_15 s room answer in
-      let g = late_greatest_lem (sound_proper (judged_sound s w.judged_fine)) w.greatest_late in
+      let g = late_greatest_lem (sound_proper _ (judged_sound s w.judged_fine)) w.greatest_late in
       late_quick s number (record { judged_fine = w.judged_fine; numbered_fine = known; known = g.0; passing = g.1; greatest_rank = g.2 })
 
   -- and the other way round, where they come to judge it.
@@ -81,7 +81,7 @@ module _ (s : Sheet) (number room : ℕ) {i : ℕ} where
   quick_late_table sized enough answer =
       let z = sizes_given s sized in
       let w = quick_15 s number answer in
-      let good = sound_proper (judged_sound s w.judged_fine) in
+      let good = sound_proper _ (judged_sound s w.judged_fine) in
       late_responses s room (record {
         judged_fine = z.judged_fine;
         hyperperiod_most = z.hyperperiod_most;

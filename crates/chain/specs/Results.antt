@@ -206,7 +206,7 @@ suite_figures s old r table promise {totals} answer number known =
     place =
         ap (λ xs. get_or xs (number - 1) no_summary) (promise.2 ∙ ap (λ a. summaries_after a s) answer)
         ∙ places_taken 8 no_summary (λ c. summary_at s (c + 1) totals) (chain_count s) no_summary (number - 1) (omega (arith, count))
-        (omega (arith, count, chains_most (judged_sound s (responses_given s (length old) answer).judged_fine)))
+        (omega (arith, count, chains_most _ (judged_sound s (responses_given s (length old) answer).judged_fine)))
         ∙ ap (λ n. summary_at s n totals) (omega (arith, count))
 
 -- ---- `delay`

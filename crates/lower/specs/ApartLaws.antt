@@ -42,10 +42,10 @@ module _ {old new : Sheet} (below : DifferBelow old new) (ok : Sound old) (ok' :
   one = chain_of old 1
 
   pub first_chain : Chain ts (first_of one) (rest_of one)
-  first_chain = chain_known ok 1 (one_known ok)
+  first_chain = chain_known _ ok 1 (one_known ok)
 
   second_chain : Chain us (first_of one) (rest_of one)
-  second_chain = subst (λ c. Chain us (first_of c) (rest_of c)) (sym below.same_chain_lem) (chain_known ok' 1 (one_known ok'))
+  second_chain = subst (λ c. Chain us (first_of c) (rest_of c)) (sym below.same_chain_lem) (chain_known _ ok' 1 (one_known ok'))
 
   same_there : (j : ℕ) → HoldsSame old new j → get_or ts j none ≡ get_or us j none
   same_there j h =
@@ -60,7 +60,7 @@ module _ {old new : Sheet} (below : DifferBelow old new) (ok : Sound old) (ok' :
     listed = along_entries (λ i. i < length ts) one (chain_along (length ts) (first_of one) (rest_of one) first_chain) place on
 
     pub task_same : HoldsSame old new i
-    task_same = below.old_tasks i (omega (arith, listed, tasks_length ok)) (λ under. omega (arith, under place on))
+    task_same = below.old_tasks i (omega (arith, listed, tasks_length _ ok)) (λ under. omega (arith, under place on))
 
     there : (place ≤ last_place new) × (chain_task new place ≡ i)
     there = (subst (λ c. place ≤ length (rest_of c)) below.same_chain_lem on, ap (λ c. get_or c place 0) (sym below.same_chain_lem))
@@ -70,12 +70,12 @@ module _ {old new : Sheet} (below : DifferBelow old new) (ok : Sound old) (ok' :
       known = listed;
       same = record {
         left = λ j from.
-            let h = below.old_tasks j (omega (arith, from.known, tasks_length ok)) (λ under. omega (arith, under place on, from.ranked)) in
-            (omega (arith, h.on_new, tasks_length ok'), same_there j h);
+            let h = below.old_tasks j (omega (arith, from.known, tasks_length _ ok)) (λ under. omega (arith, under place on, from.ranked)) in
+            (omega (arith, h.on_new, tasks_length _ ok'), same_there j h);
         right = λ j from.
             let high : rank us (chain_task new place) ≤ rank us j = rw there.1 (omega (arith, from.ranked, task_same.same_rank)) in
-            let h = below.new_tasks j (omega (arith, from.known, tasks_length ok')) (λ under. omega (arith, under place there.0, high)) in
-            (omega (arith, h.on_old, tasks_length ok), same_there j h);
+            let h = below.new_tasks j (omega (arith, from.known, tasks_length _ ok')) (λ under. omega (arith, under place there.0, high)) in
+            (omega (arith, h.on_old, tasks_length _ ok), same_there j h);
       };
     }
 

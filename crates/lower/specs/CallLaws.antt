@@ -84,12 +84,12 @@ none_least n test l j h = go (test j) refl
 
 -- A sheet whose fields are fine has a chain one, whose entries are tasks.
 pub one_known : {s : Sheet} → Sound s → lacks s 1 ≡ fine
-one_known {s} sound = number_known s 1 (le_refl _) (omega (arith, chain_count_lem sound, sound.chains_least))
+one_known {s} sound = number_known s 1 (le_refl _) (omega (arith, chain_count_lem _ sound, sound.chains_least))
 
 pub one_chain : {s : Sheet} → Sound s → length (chain_at s 1).entries ≡ 16 → ChainOn s (chain_of s 1)
 one_chain {s} sound whole = record {
-  some = omega (arith, chain_length sound 1 (one_known sound) whole, sound.length_least 0 (chain_place sound 1 (one_known sound)));
-  entry_below = λ e l. omega (arith, entry_listed sound 1 (one_known sound) e l, tasks_length sound);
+  some = omega (arith, chain_length _ sound 1 (one_known sound) whole, sound.length_least 0 (chain_place _ sound 1 (one_known sound)));
+  entry_below = λ e l. omega (arith, entry_listed _ sound 1 (one_known sound) e l, tasks_length _ sound);
 }
 
 module _ (s : Sheet) where
@@ -209,12 +209,12 @@ pub difference_fields : {old new : Sheet} → Sound old → Sound new → (i : �
 difference_fields {old} {new} ok ok' i l m p q r = rw (
   lt-ltb i old.count l,
   lt-ltb i new.count m,
-  period_at ok i l,
-  period_at ok' i m,
-  budget_at ok i l,
-  budget_at ok' i m,
-  rank_at_lem ok i l,
-  rank_at_lem ok' i m,
+  period_at _ ok i l,
+  period_at _ ok' i m,
+  budget_at _ ok i l,
+  budget_at _ ok' i m,
+  rank_at_lem _ ok i l,
+  rank_at_lem _ ok' i m,
   p,
   q,
   r,

@@ -196,7 +196,7 @@ module _ {old new : Sheet} (below : DifferBelow old new) where
       let ok' = judged_sound new h.judged_fine in
       let apart = task_apart below ok ok' place on in
       let i = chain_task old place in
-      response_in ok room answer i (omega (arith, apart.known, tasks_length ok))
+      response_in ok room answer i (omega (arith, apart.known, tasks_length _ ok))
       ∙ apart_response g.accepted h.accepted i apart
       ∙ sym (response_in ok' room' answer' i (task_same below ok ok' place on).on_new)
     where
@@ -224,10 +224,10 @@ module _ {old new : Sheet} (below : DifferBelow old new) where
 
       bounds : bound_by (tasks_of old) (chain_of old 1) ≡ bound_by (tasks_of new) (chain_of new 1)
       bounds =
-          quick_bound_same (given_accepted old 1 answer).proper (first_of (chain_of old 1)) (rest_of (chain_of old 1)) (chain_known ok 1 (one_known ok))
+          quick_bound_same (given_accepted old 1 answer).proper (first_of (chain_of old 1)) (rest_of (chain_of old 1)) (chain_known _ ok 1 (one_known ok))
           ∙ (figures_same below ok ok' (given_accepted old 1 answer) (given_accepted new 1 answer')).same_bound
           ∙ ap (λ c. bound (tasks_of new) (task_response (tasks_of new)) (first_of c) (rest_of c)) below.same_chain_lem
-          ∙ sym (quick_bound_same (given_accepted new 1 answer').proper (first_of (chain_of new 1)) (rest_of (chain_of new 1)) (chain_known ok' 1 (one_known ok')))
+          ∙ sym (quick_bound_same (given_accepted new 1 answer').proper (first_of (chain_of new 1)) (rest_of (chain_of new 1)) (chain_known _ ok' 1 (one_known ok')))
 
       wait : flag_wait (tasks_of old) (first_of (chain_of old 1)) ≡ flag_wait (tasks_of new) (first_of (chain_of new 1))
       wait = ap (λ T. T - 1) (first_period_same below ok ok') ∙ ap (λ c. flag_wait (tasks_of new) (first_of c)) below.same_chain_lem

@@ -2,14 +2,14 @@
 use answers::Refusal;
 
 // Of the two sheets, the one that was and the one that is to be.
-#[derive(Drop)]
+#[derive(Clone, Copy)]
 pub enum Which {
     Old,
     New,
 }
 
 // In what the task of an index differs: it stands on one sheet only, or has another period, budget or rank.
-#[derive(Drop)]
+#[derive(Clone, Copy)]
 pub enum Difference {
     OldOnly,
     NewOnly,
@@ -19,13 +19,13 @@ pub enum Difference {
 }
 
 // What an index has against it.
-#[derive(Drop)]
+#[derive(Clone, Copy)]
 pub enum Way {
     Clear,
     Blocked(Difference),
 }
 
-#[derive(Drop)]
+#[derive(Clone, Copy)]
 pub enum Comparison {
     Applies,
     Refused(Which, Refusal),

@@ -76,13 +76,13 @@ module _ {s : Sheet} (sound : Sound s) where
   one = chain_of s chain_one
 
   pub has_one : lacks s chain_one ≡ fine
-  has_one = rw (le-ltb (chain_count s) 1 (omega (arith, chain_count_lem sound, sound.chains_least))) refl
+  has_one = rw (le-ltb (chain_count s) 1 (omega (arith, chain_count_lem _ sound, sound.chains_least))) refl
 
   pub chained : 0 < length one → Chained one
-  chained some = record { some = some; most = chain_most sound chain_one has_one }
+  chained some = record { some = some; most = chain_most _ sound chain_one has_one }
 
   pub first_known : first_of one < s.count
-  first_known = omega (arith, chain_head (tasks_of s) (first_of one) (rest_of one) (chain_known sound chain_one has_one), tasks_length sound)
+  first_known = omega (arith, chain_head (tasks_of s) (first_of one) (rest_of one) (chain_known _ sound chain_one has_one), tasks_length _ sound)
 
   -- What is found is what is answered.
   pub sheet_replays : Accepted (tasks_of s) → (bytes plan chain : List ℕ) (n : ℕ) (x : Found) → tasks_in plan s.count ≡ tasks_of s → chain ≡ one → n ≡ count bytes
@@ -90,7 +90,7 @@ module _ {s : Sheet} (sound : Sound s) where
       → Replays (tasks_of s) (first_of one) (rest_of one) (records bytes) x.paths x.longest b
   sheet_replays accepted bytes plan chain n x te ce ne f be =
       subst (Replays (tasks_of s) (first_of one) (rest_of one) (records bytes) x.paths x.longest) (sym (be ∙ ap (break_in x.agreeing) ne))
-      (found_replays accepted (first_of one) (rest_of one) (chain_known sound chain_one has_one) bytes (count bytes) x
+      (found_replays accepted (first_of one) (rest_of one) (chain_known _ sound chain_one has_one) bytes (count bytes) x
       (subst (λ n. FoundIn (tasks_of s) (first_of one) (rest_of one) bytes n x) ne
       (subst (λ c. FoundIn (tasks_of s) (first_of c) (rest_of c) bytes n x) ce
       (subst (λ ts. FoundIn ts (first_of chain) (rest_of chain) bytes n x) te f))))

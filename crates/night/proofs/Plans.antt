@@ -71,10 +71,10 @@ plan_more {s} sound n l {plan} p = record { whole = simp (length-set) p.whole; t
 pub plan_tasks : {s : Sheet} → Sound s → {plan : List ℕ} → PlanTo s s.count plan → (tasks_in plan s.count ≡ tasks_of s) × Plan plan s.count
 unfolding tasks_in
 plan_tasks {s} sound {plan} p = (
-  ext_get_or none (tasks_in plan s.count) (tasks_of s) (length_list_of s.count (task_in plan) ∙ sym (tasks_length sound))
+  ext_get_or none (tasks_in plan s.count) (tasks_of s) (length_list_of s.count (task_in plan) ∙ sym (tasks_length _ sound))
       (λ i l. each i (omega (arith, length_list_of s.count (task_in plan)))),
   record { whole = p.whole; few = sound.count_most; budget_most = λ i l. omega (arith, ap (λ (t : Task). t.budget) (p.tasks_are i l), sound.budget_most i l, sound.period_most i l) },
 )
   where
     each : (i : ℕ) → i < s.count → get_or (tasks_in plan s.count) i none ≡ get_or (tasks_of s) i none
-    each i l = get_d_list_of s.count (task_in plan) i none l ∙ p.tasks_are i l ∙ sym (task_at_lem sound i l)
+    each i l = get_d_list_of s.count (task_in plan) i none l ∙ p.tasks_are i l ∙ sym (task_at_lem _ sound i l)

@@ -28,21 +28,21 @@ use sheet::{Chain, Sheet};
 const CHAIN_ONE: u8 = 1;
 
 // What a wait leads to: a break, or the task that may finish then, 16 for none.
-#[derive(Drop)]
+#[derive(Clone, Copy)]
 enum Still {
     Breaks,
     Last(u8),
 }
 
 // What a record leads to: a break, or the next tick and the task that may finish then, 16 for none.
-#[derive(Drop)]
+#[derive(Clone, Copy)]
 enum Went {
     Broken,
     On(u32, u8),
 }
 
 // How many records agree, how many paths they complete, and the longest of these.
-#[derive(Drop)]
+#[derive(Clone, Copy)]
 struct Found {
     agreeing: u16,
     paths: u32,
@@ -58,8 +58,8 @@ fn released(job: u32, period: u32, at: u32) -> bool
 
 // Of task i and the best so far the one of greater rank; 16 is none.
 fn greater(plan: &[u32; 48], count: u8, i: u8, best: u8) -> u8
-    requires fact_1 { Plan plan.now count }
-    requires fact_2 { (i < count) × known count best }
+    requires plan_fits { Plan plan.now count }
+    requires best_known { (i < count) × known count best }
     ensures { (slot result ≡ outranking (rank (tasks_in plan.now count)) i (slot best)) × known count result }
 {
     if best < 16 {
@@ -74,8 +74,8 @@ fn greater(plan: &[u32; 48], count: u8, i: u8, best: u8) -> u8
 
 // What runs at a tick.
 fn turn_of(plan: &[u32; 48], count: u8, ended: &[u32; 16], at: u32) -> u8
-    requires fact_1 { Plan plan.now count }
-    requires fact_2 { length ended.now ≡ 16 }
+    requires plan_fits { Plan plan.now count }
+    requires ended_length { length ended.now ≡ 16 }
     ensures { (slot result ≡ turn (tasks_in plan.now count) (held ended.now) at) × known count result }
 {
     let mut best = 16u8;
@@ -92,8 +92,8 @@ fn turn_of(plan: &[u32; 48], count: u8, ended: &[u32; 16], at: u32) -> u8
 
 // The job that ran last may go on: it has budget left.
 fn goes_on_lem(plan: &[u32; 48], count: u8, ran: &[u32; 16], last: u8) -> bool
-    requires fact_1 { Plan plan.now count }
-    requires fact_2 { (length ran.now ≡ 16) × known count last }
+    requires plan_fits { Plan plan.now count }
+    requires last_known { (length ran.now ≡ 16) × known count last }
     ensures { result ≡ goes_on (tasks_in plan.now count) (held ran.now) (slot last) }
 {
     if last < 16 {
@@ -105,8 +105,8 @@ fn goes_on_lem(plan: &[u32; 48], count: u8, ran: &[u32; 16], last: u8) -> bool
 
 // In m ticks of the task nothing starts or ends.
 fn is_quiet(plan: &[u32; 48], count: u8, ran: &[u32; 16], m: u32, x: u8) -> bool
-    requires fact_1 { Plan plan.now count }
-    requires fact_2 { (length ran.now ≡ 16) × known count x }
+    requires plan_fits { Plan plan.now count }
+    requires last_known { (length ran.now ≡ 16) × known count x }
     ensures { result ≡ quiet (tasks_in plan.now count) (held ran.now) m (slot x) }
 {
     if x < 16 {
@@ -145,8 +145,8 @@ fn wait_to(
     last: u8,
     at: u32,
 ) -> Still
-    requires fact_1 { Plan plan.now count }
-    requires fact_2 { (length ended.now ≡ 16) × (length ran.old ≡ 16) × known count last × (tick ≤ at) }
+    requires plan_fits { Plan plan.now count }
+    requires state_known { (length ended.now ≡ 16) × (length ran.old ≡ 16) × known count last × (tick ≤ at) }
     ensures ran_after { still result at ended.now ran.new ≡ wait (tasks_in plan.now count) (state_of tick last ended.now ran.old) at }
     ensures still_known { still_known count result × (length ran.new ≡ 16) }
 {
@@ -174,8 +174,8 @@ fn start_now(
     last: u8,
     task: u8,
 ) -> Went
-    requires fact_1 { Plan plan.now count }
-    requires fact_2 { (length ended.now ≡ 16) × (length ran.old ≡ 16) × known count last × (task < count) × (tick < most_time) }
+    requires plan_fits { Plan plan.now count }
+    requires state_known { (length ended.now ≡ 16) × (length ran.old ≡ 16) × known count last × (task < count) × (tick < most_time) }
     ensures ran_after { went result ended.now ran.new ≡ accept (tasks_in plan.now count) (state_of tick last ended.now ran.old) (start task tick) }
     ensures went_known { went_known count result × (length ran.new ≡ 16) }
 {
@@ -220,8 +220,8 @@ fn step_on(
     kind: u8,
     at: u32,
 ) -> Went
-    requires fact_1 { Plan plan.now count }
-    requires fact_2 { (length ended.old ≡ 16) × (length ran.old ≡ 16) × known count last × (task < count) × (at < most_time) × (held ended.old task < 4294967295) }
+    requires plan_fits { Plan plan.now count }
+    requires state_known { (length ended.old ≡ 16) × (length ran.old ≡ 16) × known count last × (task < count) × (at < most_time) × (held ended.old task < 4294967295) }
     ensures ran_after { went result ended.new ran.new ≡ step (tasks_in plan.now count) (state_of tick last ended.old ran.old) (event task kind at) }
     ensures went_known { went_known count result × (length ended.new ≡ 16) × (length ran.new ≡ 16) }
 {
@@ -275,8 +275,8 @@ fn ready_at(writes: &[u32; 16], q: usize) -> u32
 
 // A start: the task's job reads what waits at its place.
 fn read_on(chain: &[u8], task: u8, writes: &[u32; 16], reads: &mut [u32; 16])
-    requires fact_1 { Chained chain.now }
-    requires fact_2 { (length writes.now ≡ 16) × (length reads.old ≡ 16) × (held writes.now 0 < 4294967295) }
+    requires chained { Chained chain.now }
+    requires lengths { (length writes.now ≡ 16) × (length reads.old ≡ 16) × (held writes.now 0 < 4294967295) }
     ensures { Whole reads.new (λ q. cond (stands (first_of chain.now) (rest_of chain.now) task q) (ready (held writes.now) q) (held reads.old q)) }
 {
     let mut q = 0usize;
@@ -290,8 +290,8 @@ fn read_on(chain: &[u8], task: u8, writes: &[u32; 16], reads: &mut [u32; 16])
 
 // A finish: the task's job writes what it has read.
 fn write_on(chain: &[u8], task: u8, reads: &[u32; 16], writes: &mut [u32; 16])
-    requires fact_1 { Chained chain.now }
-    requires fact_2 { (length reads.now ≡ 16) × (length writes.old ≡ 16) }
+    requires chained { Chained chain.now }
+    requires lengths { (length reads.now ≡ 16) × (length writes.old ≡ 16) }
     ensures { Whole writes.new (λ q. cond (stands (first_of chain.now) (rest_of chain.now) task q) (held reads.now q) (held writes.old q)) }
 {
     let mut q = 0usize;
@@ -313,8 +313,8 @@ fn end_on(
     writes: &[u32; 16],
     x: Longest,
 ) -> Longest
-    requires fact_1 { Chained chain.now }
-    requires fact_2 { (length reads.now ≡ 16) × (length writes.now ≡ 16) }
+    requires chained { Chained chain.now }
+    requires lengths { (length reads.now ≡ 16) × (length writes.now ≡ 16) }
     ensures { result ≡ longest_after period (first_of chain.now) (rest_of chain.now) (readings_of reads.now writes.now x) task at }
 {
     let end = chain.len() - 1;
@@ -339,8 +339,8 @@ fn follow_on(
     kind: u8,
     at: u32,
 ) -> Longest
-    requires fact_1 { Chained chain.now }
-    requires fact_2 { (length reads.old ≡ 16) × (length writes.old ≡ 16) × (held writes.old 0 < 4294967295) }
+    requires chained { Chained chain.now }
+    requires lengths { (length reads.old ≡ 16) × (length writes.old ≡ 16) × (held writes.old 0 < 4294967295) }
     ensures result_after { readings_of reads.new writes.new result ≡ follow period (first_of chain.now) (rest_of chain.now) (readings_of reads.old writes.old x) (event task kind at) }
     ensures reads_len { (length reads.new ≡ 16) × (length writes.new ≡ 16) }
 {
@@ -355,8 +355,8 @@ fn follow_on(
 
 // What is found after r records.
 fn found_by(chain: &[u8], writes: &[u32; 16], r: u16, longest: Longest) -> Found
-    requires fact_1 { Chained chain.now }
-    requires fact_2 { length writes.now ≡ 16 }
+    requires chained { Chained chain.now }
+    requires writes_length { length writes.now ≡ 16 }
     ensures { (result.agreeing ≡ r) × (result.paths ≡ held writes.now (length (rest_of chain.now))) × (result.longest ≡ longest) }
 {
     let paths = writes[chain.len() - 1];
@@ -369,10 +369,10 @@ fn found_by(chain: &[u8], writes: &[u32; 16], r: u16, longest: Longest) -> Found
 
 // The pass over the log's n records.
 fn run_log(plan: &[u32; 48], count: u8, chain: &[u8], log: &[u8], n: u16) -> Found
-    requires fact_1 { Plan plan.now count }
-    requires fact_2 { Chained chain.now }
-    requires fact_3 { first_of chain.now < count }
-    requires fact_4 { Sane log.now count n }
+    requires plan_fits { Plan plan.now count }
+    requires chained { Chained chain.now }
+    requires first_known { first_of chain.now < count }
+    requires sane_log { Sane log.now count n }
     ensures { FoundIn (tasks_in plan.now count) (first_of chain.now) (rest_of chain.now) log.now n result }
 {
     let period = plan[3 * chain[0] as usize];
@@ -455,9 +455,9 @@ fn break_of(agreeing: u16, n: u16) -> Break
 
 // What the records hold, for a sheet and a log that are taken.
 fn replayed(s: Sheet, log: &[u8], figure: Figure) -> Replayed
-    requires fact_1 { Sound s }
-    requires fact_2 { Accepted (tasks_of s) }
-    requires fact_3 { log_judged log.now s.count ≡ fine }
+    requires sound { Sound s }
+    requires accepted_sheet { Accepted (tasks_of s) }
+    requires log_fine { log_judged log.now s.count ≡ fine }
     ensures { (result.records ≡ count log.now) × (result.figure ≡ figure) × Follows s log.now result }
 {
     let plan = plan_of(s);

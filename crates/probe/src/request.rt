@@ -7,7 +7,7 @@ use theory::Task;
 // bytes of the sheet, of a replay with the log behind it and the first number for where that begins, and so many of content: the bytes that
 // the call is lent, or the words that a lent table holds over and over. A call on two
 // sheets has the second in the content, field by field.
-#[derive(Drop)]
+#[derive(Clone, Copy)]
 pub struct Request {
     pub call: u32,
     pub form: u32,

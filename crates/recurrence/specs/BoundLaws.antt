@@ -44,16 +44,16 @@ module _ (s : Sheet) (chain : List ℕ) where
 -- The chain of a number.
 pub chain_on : {s : Sheet} → Sound s → (number : ℕ) → lacks s number ≡ fine → length (chain_of s number) ≡ (chain_at s number).length → ChainOn s (chain_of s number)
 chain_on ok number known whole = record {
-  is_chain = chain_known ok number known;
-  entry_below = λ j l. omega (arith, entry_listed ok number known j l, tasks_length ok);
-  some = omega (arith, ok.length_least (number - 1) (chain_place ok number known));
-  few = chain_most ok number known;
+  is_chain = chain_known _ ok number known;
+  entry_below = λ j l. omega (arith, entry_listed _ ok number known j l, tasks_length _ ok);
+  some = omega (arith, ok.length_least (number - 1) (chain_place _ ok number known));
+  few = chain_most _ ok number known;
 }
 
 module _ {s : Sheet} (ok : Sound s) {responses : List ℕ} (responding : Responding s responses) where
   pub small : (i : ℕ) → i < s.count → SmallTask most_period (period (tasks_of s)) (quick_response (tasks_of s)) i
   small i l =
-      let t = task_allowed ok i (omega (arith, tasks_length ok)) in
+      let t = task_allowed _ ok i (omega (arith, tasks_length _ ok)) in
       record {
         period_positive = t.period_positive;
         period_most = t.period_most;
@@ -67,7 +67,7 @@ module _ {s : Sheet} (ok : Sound s) {responses : List ℕ} (responding : Respond
     arith,
     bound_most most_period (period (tasks_of s)) (outranked (tasks_of s)) (quick_response (tasks_of s)) (first_of chain) (rest_of chain)
         (along_chain (SmallTask most_period (period (tasks_of s)) (quick_response (tasks_of s))) (length (tasks_of s))
-        (λ i l. small i (omega (arith, tasks_length ok))) (first_of chain) (rest_of chain) on.is_chain),
+        (λ i l. small i (omega (arith, tasks_length _ ok))) (first_of chain) (rest_of chain) on.is_chain),
     length-drop 1 chain,
     on.few,
   )
@@ -83,11 +83,11 @@ module _ {s : Sheet} (ok : Sound s) {responses : List ℕ} (responding : Respond
     pub pair_at : pair_of s p c ≡ (T c - g) + cond (ltb (get_or s.tasks p none).rank (get_or s.tasks c none).rank) (up g (get_or responses p 0)) 0
     pair_at =
         ap₂ (λ (x y : Task). (y.period - gcd x.period y.period) + cond (ltb x.rank y.rank) (up (gcd x.period y.period) (quick_response (tasks_of s) p)) 0)
-        (task_at_lem ok p kp) (task_at_lem ok c kc)
+        (task_at_lem _ ok p kp) (task_at_lem _ ok c kc)
         ∙ ap (λ r. (T c - g) + cond (ltb (get_or s.tasks p none).rank (get_or s.tasks c none).rank) (up g r) 0) (sym (responding.response_is p kp))
 
     pub pair_near : (g ≤ T c) × (up g (get_or responses p 0) ≤ T c + most_period) × (T c ≤ most_period)
     pair_near =
         let both = common_most (period (tasks_of s)) p c (small p kp).period_positive (small c kc).period_positive in
-        let most = rw (period_at ok p kp, period_at ok c kc) at both in
-        (most.1, omega (arith, most, up_near g (get_or responses p 0) most.0, responding.response_is p kp, (small p kp).response_most), (place_allowed ok c kc).period_most)
+        let most = rw (period_at _ ok p kp, period_at _ ok c kc) at both in
+        (most.1, omega (arith, most, up_near g (get_or responses p 0) most.0, responding.response_is p kp, (small p kp).response_most), (place_allowed _ ok c kc).period_most)

@@ -123,15 +123,15 @@ module _ {s : Sheet} (ok : Sound s) {values : List ℕ} (are : values ≡ respon
     pub found_more : (get_or s.tasks i none).period < get_or values i 0 → above ≤ (get_or s.tasks i none).rank → FoundTo s (i + 1) ((get_or s.tasks i none).rank + 1) i
     found_more p r = record {
       is_greatest = ap (passing_greatest ts) (add-one i) ∙ step true passing ∙ go above refl;
-      has_rank = λ q. omega (arith, rank_at_lem ok i l);
+      has_rank = λ q. omega (arith, rank_at_lem _ ok i l);
     }
       where
         passing : passes ts i ≡ true
-        passing = lt-ltb (period ts i) (quick_response ts i) (omega (arith, response_at i l, period_at ok i l))
+        passing = lt-ltb (period ts i) (quick_response ts i) (omega (arith, response_at i l, period_at _ ok i l))
 
         go : (x : ℕ) → above ≡ x → outranking (rank ts) i (slot_of x found) ≡ slot_of ((get_or s.tasks i none).rank + 1) i
         go zero e = rw (add-one (get_or s.tasks i none).rank)
-        go (suc x) e = rw (add-one (get_or s.tasks i none).rank, lt-ltb (rank ts found) (rank ts i) (omega (arith, f.has_rank (omega arith), rank_at_lem ok i l)))
+        go (suc x) e = rw (add-one (get_or s.tasks i none).rank, lt-ltb (rank ts found) (rank ts i) (omega (arith, f.has_rank (omega arith), rank_at_lem _ ok i l)))
 
     -- or does not outrank it,
     pub found_lower : (get_or s.tasks i none).period < get_or values i 0 → (get_or s.tasks i none).rank < above → FoundTo s (i + 1) above found
@@ -141,25 +141,25 @@ module _ {s : Sheet} (ok : Sound s) {values : List ℕ} (are : values ≡ respon
     }
       where
         passing : passes ts i ≡ true
-        passing = lt-ltb (period ts i) (quick_response ts i) (omega (arith, response_at i l, period_at ok i l))
+        passing = lt-ltb (period ts i) (quick_response ts i) (omega (arith, response_at i l, period_at _ ok i l))
 
         go : (x : ℕ) → above ≡ x → outranking (rank ts) i (slot_of x found) ≡ slot_of x found
         go zero e = absurd (omega arith)
-        go (suc x) e = rw (le-ltb (rank ts found) (rank ts i) (omega (arith, f.has_rank (omega arith), rank_at_lem ok i l)))
+        go (suc x) e = rw (le-ltb (rank ts found) (rank ts i) (omega (arith, f.has_rank (omega arith), rank_at_lem _ ok i l)))
 
     -- or keeps its period.
     pub found_same : get_or values i 0 ≤ (get_or s.tasks i none).period → FoundTo s (i + 1) above found
     found_same p = record {
       is_greatest = ap (passing_greatest ts) (add-one i)
-          ∙ step false (le-ltb (period ts i) (quick_response ts i) (omega (arith, response_at i l, period_at ok i l)));
+          ∙ step false (le-ltb (period ts i) (quick_response ts i) (omega (arith, response_at i l, period_at _ ok i l)));
       has_rank = f.has_rank;
     }
 
   -- Where none passes, the values are responses.
   pub none_responding : passing_greatest (tasks_of s) (length (tasks_of s)) ≡ idle → Responding s values
-  none_responding e = record { response_is = response_at; response_most = λ i l. ltb-false _ _ (found (tasks_of s) e i (omega (arith, tasks_length ok))) }
+  none_responding e = record { response_is = response_at; response_most = λ i l. ltb-false _ _ (found (tasks_of s) e i (omega (arith, tasks_length _ ok))) }
 
 -- All tasks are looked at.
 pub found_all : {s : Sheet} → Sound s → {i above found : ℕ} → i ≡ s.count → FoundTo s i above found
     → passing_greatest (tasks_of s) (length (tasks_of s)) ≡ slot_of above found
-found_all {s} ok e f = ap (passing_greatest (tasks_of s)) (tasks_length ok ∙ sym e) ∙ f.is_greatest
+found_all {s} ok e f = ap (passing_greatest (tasks_of s)) (tasks_length _ ok ∙ sym e) ∙ f.is_greatest

@@ -61,7 +61,7 @@ module _ {s : Sheet} (ok : Sound s) (i : ℕ) (known : i < s.count) {periods bud
   same : (f : ℕ → ℕ → ℕ) (b : Bool) → ltb (get_or s.tasks i none).rank t.rank ≡ b
       → cond (outranks ts j i) (f (period ts j) (budget ts j)) 0 ≡ cond b (f t.period t.budget) 0
   same f b e =
-      ap₂ (λ (x y : Task). cond (ltb x.rank y.rank) (f y.period y.budget) 0) (task_at_lem ok i known) (task_at_lem ok j l)
+      ap₂ (λ (x y : Task). cond (ltb x.rank y.rank) (f y.period y.budget) 0) (task_at_lem _ ok i known) (task_at_lem _ ok j l)
       ∙ ap (λ x. cond x (f t.period t.budget) 0) e
 
   -- Task j outranks task i and takes the next place,
@@ -72,12 +72,12 @@ module _ {s : Sheet} (ok : Sound s) (i : ℕ) (known : i < s.count) {periods bud
       placed = record {
         few = omega (arith, g.within, ok.count_most);
         period_positive = below_more (λ p. 0 < get_or (set periods size t.period) p 0) size
-            (λ p m. rw (others periods t.period p m) (g.outranking.placed.period_positive p m)) (rw here_period (place_allowed ok j l).period_positive);
+            (λ p m. rw (others periods t.period p m) (g.outranking.placed.period_positive p m)) (rw here_period (place_allowed _ ok j l).period_positive);
         period_most = below_more (λ p. get_or (set periods size t.period) p 0 ≤ most_period) size
-            (λ p m. rw (others periods t.period p m) (g.outranking.placed.period_most p m)) (rw here_period (place_allowed ok j l).period_most);
+            (λ p m. rw (others periods t.period p m) (g.outranking.placed.period_most p m)) (rw here_period (place_allowed _ ok j l).period_most);
         budget_most = below_more (λ p. get_or (set budgets size t.budget) p 0 ≤ get_or (set periods size t.period) p 0) size
             (λ p m. rw (others periods t.period p m, others budgets t.budget p m) (g.outranking.placed.budget_most p m))
-            (rw (here_period, here_budget) (place_allowed ok j l).budget_most);
+            (rw (here_period, here_budget) (place_allowed _ ok j l).budget_most);
       };
       sums = λ f. rw (add-one size, add-one j) (ap₂ ◌+◌
           (sum_eq size _ _ (λ p m. ap₂ f (others periods t.period p m) (others budgets t.budget p m)) ∙ g.outranking.sums f)
@@ -139,8 +139,8 @@ pub claim_is : {s : Sheet} → Sound s → (i : ℕ) → i < s.count → {period
     → (x : ℕ) → claim_in periods budgets size (get_or s.tasks i none).budget x ≡ claim (tasks_of s) (budget (tasks_of s)) i x
 unfolding claim_in claim
 claim_is {s} ok i l o x =
-    ap₂ ◌+◌ (sym (budget_at ok i l)) (o.sums (λ T C. C * quotient x T))
-    ∙ ap (λ n. budget ts i + sum n (λ j. cond (outranks ts j i) (budget ts j * quotient x (period ts j)) 0)) (sym (tasks_length ok))
+    ap₂ ◌+◌ (sym (budget_at _ ok i l)) (o.sums (λ T C. C * quotient x T))
+    ∙ ap (λ n. budget ts i + sum n (λ j. cond (outranks ts j i) (budget ts j * quotient x (period ts j)) 0)) (sym (tasks_length _ ok))
   where
     ts : List Task
     ts = tasks_of s

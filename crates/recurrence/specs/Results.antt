@@ -128,25 +128,25 @@ module _ (s : Sheet) (number : ℕ) where
   pub late_quick : {i : ℕ} → LateWhen s number i → quick_of s number ≡ refused 15 (i ∷ [])
   late_quick w =
       quick_passing_task s number w.judged_fine w.numbered_fine
-      (task_found ts (sound_proper (judged_sound s w.judged_fine)) w.known w.passing w.greatest_rank)
+      (task_found ts (sound_proper _ (judged_sound s w.judged_fine)) w.known w.passing w.greatest_rank)
 
 -- ---- the schedules
 
 -- Of a sheet that is judged fine a value passes its period exactly when some job of the task is late in the full-budget schedule.
 pub passing_is_late : (s : Sheet) → judge_of s ≡ fine → (i : ℕ) → i < length (tasks_of s)
     → (Passing (tasks_of s) i → EverLate (tasks_of s) i) × (EverLate (tasks_of s) i → Passing (tasks_of s) i)
-passing_is_late s e i l = theory.passing_is_late (sound_proper (judged_sound s e)) i l
+passing_is_late s e i l = theory.passing_is_late (sound_proper _ (judged_sound s e)) i l
 
 -- So where the bounds are given no task is late,
 pub given_accepted : (s : Sheet) (number : ℕ) {b : Bounds} → quick_of s number ≡ given b → Accepted (tasks_of s)
-given_accepted s number e = let g = quick_given s number e in within_accepted (sound_proper (judged_sound s g.judged_fine)) g.none_passing
+given_accepted s number e = let g = quick_given s number e in within_accepted (sound_proper _ (judged_sound s g.judged_fine)) g.none_passing
 
 -- and what is answered for a task is the greatest response of all its jobs; the first has it.
 pub responses_greatest : (s : Sheet) (number : ℕ) (r : QuickBound) (promise : BoundPromise s number r) {b : Bounds} (answer : quick_of s number ≡ given b) (i : ℕ) (known : i < s.count)
     → ((k : ℕ) → response (tasks_of s) i k ≤ get_or r.responses i 0) × (response (tasks_of s) i 0 ≡ get_or r.responses i 0)
 responses_greatest s number r promise answer i known =
     let sound = judged_sound s (quick_given s number answer).judged_fine in
-    let x = theory.quick_response_of_all (sound_proper sound) i (omega (arith, tasks_length sound)) in
+    let x = theory.quick_response_of_all (sound_proper _ sound) i (omega (arith, tasks_length _ sound)) in
     let is = response_at sound (promise.1 ∙ ap (λ a. responses_after a s) answer) i known in
     ((λ k. omega (arith, is, x.0 k)), omega (arith, is, x.1))
 
@@ -160,7 +160,7 @@ pub no_schedule_exceeds_quick_bound :
 no_schedule_exceeds_quick_bound s number b answer d within run schedule k =
     let g = quick_given s number answer in
     let x = theory.no_schedule_exceeds_quick_bound (tasks_of s) (given_accepted s number answer) (first_of (chain_of s number)) (rest_of (chain_of s number))
-    (chain_known (judged_sound s g.judged_fine) number g.numbered_fine) d within run schedule k in
+    (chain_known _ (judged_sound s g.judged_fine) number g.numbered_fine) d within run schedule k in
     (x.0, λ f path. omega (arith, x.1 f path, ap (λ b. b.sampling_bound) g.bounds_are))
 
 -- and a flag raised at any tick is stamped no later than the bound after it.
@@ -172,7 +172,7 @@ no_flag_exceeds_quick_bound s number b answer d within run schedule e =
     let g = quick_given s number answer in
     subst (λ b. FlagWithin d run (first_of (chain_of s number)) (rest_of (chain_of s number)) e b.bound) g.bounds_are
     (theory.no_flag_exceeds_quick_bound (tasks_of s) (given_accepted s number answer) (first_of (chain_of s number)) (rest_of (chain_of s number))
-    (chain_known (judged_sound s g.judged_fine) number g.numbered_fine) d within run schedule e)
+    (chain_known _ (judged_sound s g.judged_fine) number g.numbered_fine) d within run schedule e)
 
 -- ---- every chain from one search: of each chain what the call for it alone answers
 
@@ -187,7 +187,7 @@ suite_bound s r promise number known = quick_known s number known ∙ go (suite_
     place e =
         ap (λ xs. get_or xs (number - 1) no_bounds) (promise.2 ∙ ap (λ a. bounds_after a s) e)
         ∙ places_taken 8 no_bounds (λ c. bounds_of (tasks_of s) (chain_of s (c + 1))) (chain_count s) no_bounds (number - 1) (omega (arith, count))
-        (omega (arith, count, chains_most (judged_sound s (suite_sound s e))))
+        (omega (arith, count, chains_most _ (judged_sound s (suite_sound s e))))
         ∙ ap (λ n. bounds_of (tasks_of s) (chain_of s n)) {x = number - 1 + 1} {y = number} (omega (arith, count))
 
     go : (a : Judgement) → suite_of s ≡ a → also a (given (bounds_of (tasks_of s) (chain_of s number))) ≡ also a (given (get_or r.chains (number - 1) no_bounds))

@@ -2,27 +2,27 @@
 use answers::{Refusal, Verdict};
 
 // The quick bound from a release of the chain's first task on, and from a flag on.
-#[derive(Drop)]
+#[derive(Clone, Copy)]
 pub struct Bounds {
     pub sampling_bound: u32,
     pub bound: u32,
 }
 
-#[derive(Drop)]
+#[derive(Clone, Copy)]
 pub enum Quick {
     Of(Bounds),
     No(Refusal),
 }
 
 // The same, with the response of each task.
-#[derive(Drop)]
+#[derive(Clone, Copy)]
 pub struct QuickBound {
     pub answer: Quick,
     pub responses: [u32; 16],
 }
 
 // The bounds of every chain from one search, those of chain c + 1 in place c.
-#[derive(Drop)]
+#[derive(Clone, Copy)]
 pub struct QuickSuite {
     pub answer: Verdict,
     pub responses: [u32; 16],

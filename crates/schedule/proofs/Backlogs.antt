@@ -54,12 +54,12 @@ module _ {s : Sheet} (ok : Sound s) (i : ℕ) (known : i < s.count) where
   a = load ts (full ts) i
 
   listed : i < length ts
-  listed = omega (arith, tasks_length ok)
+  listed = omega (arith, tasks_length _ ok)
 
   -- A task's own jobs are work of its level.
   own_load : (k : ℕ) → 0 < a (k * period ts i)
   unfolding load released
-  own_load k = omega (arith, own, level_own (sound_proper ok) i listed (λ j. released ts (full ts) j (k * period ts i)), (task_allowed ok i listed).budget_positive)
+  own_load k = omega (arith, own, level_own (sound_proper _ ok) i listed (λ j. released ts (full ts) j (k * period ts i)), (task_allowed _ ok i listed).budget_positive)
     where
       own : released ts (full ts) i (k * period ts i) ≡ budget ts i
       own = rw (eq-eqb (k * period ts i % period ts i) 0 (mul-mod_left k (period ts i)))
@@ -69,11 +69,11 @@ module _ {s : Sheet} (ok : Sound s) (i : ℕ) (known : i < s.count) where
   unfolding need
   due_most j t l m = omega (
     arith,
-    due_jobs ts (full ts) j (task_allowed ok j l).period_positive t,
+    due_jobs ts (full ts) j (task_allowed _ ok j l).period_positive t,
     sum_const (suc (t / period ts j)) (budget ts j),
-    mul-le-mul {n₂ = suc (t / period ts j)} {m₂ = period ts j} (le_refl (suc (t / period ts j))) (task_allowed ok j l).budget_most,
+    mul-le-mul {n₂ = suc (t / period ts j)} {m₂ = period ts j} (le_refl (suc (t / period ts j))) (task_allowed _ ok j l).budget_most,
     div-mul-le_self t (period ts j),
-    (task_allowed ok j l).period_most,
+    (task_allowed _ ok j l).period_most,
   )
 
   work_most : (t : ℕ) → t ≤ most_ticks → t + drain a t + a t ≤ most_clear
@@ -86,16 +86,16 @@ module _ {s : Sheet} (ok : Sound s) (i : ℕ) (known : i < s.count) where
     level_le ts i (λ j. due ts (full ts) j (suc t)) (λ j. 1100000) (λ j m r. due_most j t m l),
     sum_le (length ts) (λ j. cond (leb (rank ts i) (rank ts j)) 1100000 0) (λ j. 1100000) (λ j m. part_most (leb (rank ts i) (rank ts j)) 1100000),
     sum_const (length ts) 1100000,
-    tasks_length ok,
+    tasks_length _ ok,
     ok.count_most,
   )
 
   module _ {h : ℕ} (is : Period s h) where
     pub walkable : Walk a (period ts i) h (jobs ts i)
     walkable = record {
-      period_positive = (task_allowed ok i listed).period_positive;
-      period_most = (task_allowed ok i listed).period_most;
-      ends = jobs_whole (sound_proper ok) i listed ∙ sym is.is_hyperperiod;
+      period_positive = (task_allowed _ ok i listed).period_positive;
+      period_most = (task_allowed _ ok i listed).period_most;
+      ends = jobs_whole (sound_proper _ ok) i listed ∙ sym is.is_hyperperiod;
       short = is.within_limit;
       own = own_load;
       bounded = λ t l. work_most t (omega (arith, is.within_limit));
@@ -111,15 +111,15 @@ module _ {s : Sheet} (ok : Sound s) (i : ℕ) (known : i < s.count) where
       where
         responds : (k : ℕ) → k < length xs → get_or xs k 0 ≡ response ts i k
         responds k l = let x = cleared k l in
-            omega (arith, first_zero_response (sound_proper ok) i k listed (k * period ts i + get_or xs k 0) (omega (arith, x.soon)) x.clears)
+            omega (arith, first_zero_response (sound_proper _ ok) i k listed (k * period ts i + get_or xs k 0) (omega (arith, x.soon)) x.clears)
 
         on_time : (b : Bool) → late_task ts i ≡ b → b ≡ false
         on_time false e = refl
         on_time true e =
             let x = late_job ts i e in
             let y = cleared x.0 (omega (arith, x.1)) in
-            absurd (zero_on_time (sound_proper ok) i x.0 listed (x.0 * period ts i + get_or xs x.0 0) y.clears.after (omega (arith, y.soon)) y.clears.is_zero x.2)
-    row_filled xs Late n (k, l, blocked) = let late = job_late ts i k (omega arith) (no_zero_late (sound_proper ok) i k listed blocked) in record {
+            absurd (zero_on_time (sound_proper _ ok) i x.0 listed (x.0 * period ts i + get_or xs x.0 0) y.clears.after (omega (arith, y.soon)) y.clears.is_zero x.2)
+    row_filled xs Late n (k, l, blocked) = let late = job_late ts i k (omega arith) (no_zero_late (sound_proper _ ok) i k listed blocked) in record {
       noted = late;
       filled = λ e. absurd (let z : ◌≡◌ {A = ℕ} 0 1 = cc (late, e) in omega arith);
     }

@@ -48,16 +48,16 @@ module _ (s : Sheet) (old : List ℕ) where
       pub answers_late : {i : ℕ} {table : List ℕ} → Filled ts s.count (all_jobs ts) old table (LateFound i)
           → AnswersAs (responses_of s (length old)) s old (refused 15 (i ∷ [])) (replicate size.jobs 0 ++ drop size.jobs table)
       answers_late {i} {table} f =
-          answers (responses_late s (length old) fits room (ap (late_greatest ts) (tasks_length ok) ∙ f.told.is_greatest))
+          answers (responses_late s (length old) fits room (ap (late_greatest ts) (tasks_length _ ok) ∙ f.told.is_greatest))
           (ap (λ n. replicate n 0 ++ drop n table) (sizes_given s fits).jobs_are ∙ ap (λ xs. replicate (all_jobs ts) 0 ++ xs) f.untouched)
 
       -- None is late: the rows stand there.
       pub answers_full : {low rests : ℕ} {table : List ℕ} → Filled ts s.count (all_jobs ts) old table (Lowest low rests)
           → AnswersAs (responses_of s (length old)) s old (given (record { hyperperiod = size.hyperperiod; jobs = size.jobs; idle = rests })) table
       answers_full {low} {rests} {table} f =
-          answers (responses_full s (length old) fits room (ap (late_greatest ts) (tasks_length ok) ∙ f.told.none_late)
+          answers (responses_full s (length old) fits room (ap (late_greatest ts) (tasks_length _ ok) ∙ f.told.none_late)
           ∙ ap (λ x. given (record { hyperperiod = size.hyperperiod; jobs = size.jobs; idle = x })) (sym idles))
-          (sym (take-append-drop (all_jobs ts) table) ∙ ap₂ ◌++◌ (f.filled f.told.none_late ∙ ap (rows ts) (sym (tasks_length ok))) f.untouched)
+          (sym (take-append-drop (all_jobs ts) table) ∙ ap₂ ◌++◌ (f.filled f.told.none_late ∙ ap (rows ts) (sym (tasks_length _ ok))) f.untouched)
         where
           idles : rests ≡ idle_ticks ts
-          idles = lowest_idle ts (omega (arith, tasks_length ok, ok.count_least)) (subst (λ n. LowestTo ts n low rests) (sym (tasks_length ok)) f.told)
+          idles = lowest_idle ts (omega (arith, tasks_length _ ok, ok.count_least)) (subst (λ n. LowestTo ts n low rests) (sym (tasks_length _ ok)) f.told)

@@ -47,7 +47,7 @@ module _ {s : Sheet} (ok : Sound s) (i : ℕ) (known : i < s.count) where
   pub late_greater : {w : ℕ} → LateTo ts i w → late_task ts i ≡ true → rank_at w < rank_at i → LateTo ts (suc i) i
   late_greater {w} f e l = record {
     is_greatest = step_late (busy w) e f.is_greatest
-        ∙ ap (λ b. cond b (busy i) (busy w)) (lt-ltb (rank ts w) (rank ts i) (omega (arith, rank_at_lem ok i known, rank_at_lem ok w (omega (arith, f.known)))));
+        ∙ ap (λ b. cond b (busy i) (busy w)) (lt-ltb (rank ts w) (rank ts i) (omega (arith, rank_at_lem _ ok i known, rank_at_lem _ ok w (omega (arith, f.known)))));
     known = omega arith;
   }
 
@@ -55,7 +55,7 @@ module _ {s : Sheet} (ok : Sound s) (i : ℕ) (known : i < s.count) where
   pub late_kept : {w : ℕ} → LateTo ts i w → late_task ts i ≡ true → rank_at i ≤ rank_at w → LateTo ts (suc i) w
   late_kept {w} f e l = record {
     is_greatest = step_late (busy w) e f.is_greatest
-        ∙ ap (λ b. cond b (busy i) (busy w)) (le-ltb (rank ts w) (rank ts i) (omega (arith, rank_at_lem ok i known, rank_at_lem ok w (omega (arith, f.known)))));
+        ∙ ap (λ b. cond b (busy i) (busy w)) (le-ltb (rank ts w) (rank ts i) (omega (arith, rank_at_lem _ ok i known, rank_at_lem _ ok w (omega (arith, f.known)))));
     known = omega (arith, f.known);
   }
 
@@ -74,14 +74,14 @@ module _ {s : Sheet} (ok : Sound s) (i : ℕ) (known : i < s.count) where
   }
     where
       under : rank ts i ≤ rank ts low
-      under = omega (arith, rank_at_lem ok i known, rank_at_lem ok low (omega (arith, f.known)))
+      under = omega (arith, rank_at_lem _ ok i known, rank_at_lem _ ok low (omega (arith, f.known)))
 
   -- or not.
   pub on_time_kept : {low before : ℕ} → LowestTo ts i low before → late_task ts i ≡ false → rank_at low < rank_at i → LowestTo ts (suc i) low before
   on_time_kept {low} f e l = record {
     none_late = step_on_time idle e f.none_late;
     known = omega (arith, f.known);
-    lowest = below_suc (λ j. rank ts low ≤ rank ts j) f.lowest (omega (arith, rank_at_lem ok i known, rank_at_lem ok low (omega (arith, f.known))));
+    lowest = below_suc (λ j. rank ts low ≤ rank ts j) f.lowest (omega (arith, rank_at_lem _ ok i known, rank_at_lem _ ok low (omega (arith, f.known))));
     rest = λ m. let x = f.rest (some (ℕ_discrete i 0)) in (omega (arith, x.0), x.1);
   }
     where

@@ -32,14 +32,14 @@ module _ {s : Sheet} (ok : Sound s) where
 
   pub multiple_start : 1 ≡ hyperperiod (drop s.count (tasks_of s))
   unfolding hyperperiod
-  multiple_start = rw (drop_of_length-le (tasks_of s) {i = s.count} (omega (arith, tasks_length ok)))
+  multiple_start = rw (drop_of_length-le (tasks_of s) {i = s.count} (omega (arith, tasks_length _ ok)))
 
   pub multiple_step : (i multiple : ℕ) → 0 < i → i ≤ s.count → multiple ≡ hyperperiod (drop i (tasks_of s))
       → lcm (get_or s.tasks (i - 1) none).period multiple ≡ hyperperiod (drop (i - 1) (tasks_of s))
   unfolding hyperperiod
   multiple_step i multiple some l e =
-      sym (ap hyperperiod (drop-cons (tasks_of s) (i - 1) none (omega (arith, tasks_length ok)))
-      ∙ ap₂ (λ x y. lcm x.period (hyperperiod (drop y (tasks_of s)))) (task_at_lem ok (i - 1) (omega arith)) back
+      sym (ap hyperperiod (drop-cons (tasks_of s) (i - 1) none (omega (arith, tasks_length _ ok)))
+      ∙ ap₂ (λ x y. lcm x.period (hyperperiod (drop y (tasks_of s)))) (task_at_lem _ ok (i - 1) (omega arith)) back
       ∙ ap (lcm (get_or s.tasks (i - 1) none).period) (sym e))
     where
       back : suc (i - 1) ≡ i
@@ -47,7 +47,7 @@ module _ {s : Sheet} (ok : Sound s) where
 
   -- The least common multiple of some periods is no more than that of all.
   pub multiple_most : (i : ℕ) → hyperperiod (drop i (tasks_of s)) ≤ hyperperiod (tasks_of s)
-  multiple_most i = le_of_dvd (hyperperiod_positive (tasks_of s) (λ j l. (task_allowed ok j l).period_positive))
+  multiple_most i = le_of_dvd (hyperperiod_positive (tasks_of s) (λ j l. (task_allowed _ ok j l).period_positive))
       (hyperperiod_least (drop i (tasks_of s)) (hyperperiod (tasks_of s)) each)
     where
       each : (j : ℕ) → j < length (drop i (tasks_of s)) → period (drop i (tasks_of s)) j ∣ hyperperiod (tasks_of s)
@@ -57,14 +57,14 @@ module _ {s : Sheet} (ok : Sound s) where
 
   pub jobs_next : (h i : ℕ) → Period s h → i < s.count → sum i (jobs (tasks_of s)) + h / (get_or s.tasks i none).period ≡ sum (i + 1) (jobs (tasks_of s))
   unfolding sum
-  jobs_next h i p l = rw add-one (omega (arith, jobs_at ok p.is_hyperperiod i l))
+  jobs_next h i p l = rw add-one (omega (arith, jobs_at _ ok p.is_hyperperiod i l))
 
   pub jobs_most : (h i : ℕ) → Period s h → i ≤ s.count → sum i (jobs (tasks_of s)) ≤ i * most_ticks
   jobs_most h i p l = rw (← sum_const i most_ticks) (sum_le i _ _ (λ j m. le_trans (div-le_self _ _) (omega (arith, p.is_hyperperiod, p.within_limit))))
 
   pub all_jobs_lem : all_jobs (tasks_of s) ≡ sum s.count (jobs (tasks_of s))
   unfolding all_jobs
-  all_jobs_lem = ap (λ n. sum n (jobs (tasks_of s))) (tasks_length ok)
+  all_jobs_lem = ap (λ n. sum n (jobs (tasks_of s))) (tasks_length _ ok)
 
   pub jobs_within : (h i : ℕ) → Period s h → i < s.count → sum i (jobs (tasks_of s)) + h / (get_or s.tasks i none).period ≤ all_jobs (tasks_of s)
   jobs_within h i p l = omega (arith, jobs_next h i p l, all_jobs_lem, sum_grows (jobs (tasks_of s)) (i + 1) s.count (omega arith))
@@ -101,7 +101,7 @@ module _ {s : Sheet} (ok : Sound s) (i : ℕ) (known : i < s.count) where
   pub gather_level_lem : {periods budgets : List ℕ} {size : ℕ} → GatheredTo s i periods budgets size s.count → Level ts i periods budgets size
   gather_level_lem {periods} {budgets} {size} g = record {
     places = g.places;
-    sums = λ f add. rw (level_own (sound_proper ok) i (omega (arith, tasks_length ok)) (λ j. f (period ts j) (budget ts j)), tasks_length ok) (ap (λ x. f (period ts i) (budget ts i) + x) (g.sums f add));
+    sums = λ f add. rw (level_own (sound_proper _ ok) i (omega (arith, tasks_length _ ok)) (λ j. f (period ts j) (budget ts j)), tasks_length _ ok) (ap (λ x. f (period ts i) (budget ts i) + x) (g.sums f add));
   }
 
   module _ {periods budgets : List ℕ} {size j : ℕ} (g : GatheredTo s i periods budgets size j) (l : j < s.count) where
@@ -111,7 +111,7 @@ module _ {s : Sheet} (ok : Sound s) (i : ℕ) (known : i < s.count) where
     same : (f : ℕ → ℕ → ℕ) (b : Bool) → ltb (get_or s.tasks i none).rank t.rank ≡ b
         → cond (ltb (rank ts i) (rank ts j)) (f (period ts j) (budget ts j)) 0 ≡ cond b (f t.period t.budget) 0
     same f b e =
-        ap₂ (λ x y. cond (ltb x.rank y.rank) (f y.period y.budget) 0) (task_at_lem ok i known) (task_at_lem ok j l)
+        ap₂ (λ x y. cond (ltb x.rank y.rank) (f y.period y.budget) 0) (task_at_lem _ ok i known) (task_at_lem _ ok j l)
         ∙ ap (λ x. cond x (f t.period t.budget) 0) e
 
     -- Task j outranks task i: it takes the next place,
@@ -123,14 +123,14 @@ module _ {s : Sheet} (ok : Sound s) (i : ℕ) (known : i < s.count) where
         periods_whole = length-set periods size _ ∙ g.places.periods_whole;
         budgets_whole = length-set budgets size _ ∙ g.places.budgets_whole;
         period_positive = below_more (λ p. 0 < get_or (set periods size t.period) p 0) size
-            (λ p m. rw (others periods t.period p m) (g.places.period_positive p m)) (rw here_period (place_allowed ok j l).period_positive);
+            (λ p m. rw (others periods t.period p m) (g.places.period_positive p m)) (rw here_period (place_allowed _ ok j l).period_positive);
         period_most = below_more (λ p. get_or (set periods size t.period) p 0 ≤ 100000) size
-            (λ p m. rw (others periods t.period p m) (g.places.period_most p m)) (rw here_period (place_allowed ok j l).period_most);
+            (λ p m. rw (others periods t.period p m) (g.places.period_most p m)) (rw here_period (place_allowed _ ok j l).period_most);
       };
       within = omega (arith, g.within);
       so_far = omega arith;
       budgets_most = below_more (λ p. get_or (set budgets size t.budget) p 0 ≤ (j + 1) * 100000) size
-          (λ p m. rw (others budgets t.budget p m) (omega (arith, g.budgets_most p m))) (rw here_budget (omega (arith, place_allowed ok j l)));
+          (λ p m. rw (others budgets t.budget p m) (omega (arith, g.budgets_most p m))) (rw here_budget (omega (arith, place_allowed _ ok j l)));
       sums = λ f add. rw (add-one size, add-one j) (ap₂ ◌+◌
           (sum_eq size _ _ (λ p m. ap₂ f (others periods t.period p m) (others budgets t.budget p m)) ∙ g.sums f add)
           (ap₂ f here_period here_budget ∙ sym (same f true (lt-ltb _ _ r))));
@@ -172,7 +172,7 @@ module _ {s : Sheet} (ok : Sound s) (i : ℕ) (known : i < s.count) where
         here = get_or-set_same budgets p _ 0 (omega (arith, g.places.budgets_whole, g.places.few))
 
         most : (q : ℕ) → q < size → Dec (q ≡ p) → get_or budgets' q 0 ≤ (j + 1) * 100000
-        most q m (yes z) = rw (z, here) (omega (arith, g.budgets_most p known-place, place_allowed ok j l))
+        most q m (yes z) = rw (z, here) (omega (arith, g.budgets_most p known-place, place_allowed _ ok j l))
         most q m (no z) = rw (get_or-set_other budgets p q _ 0 z) (omega (arith, g.budgets_most q m))
 
         more : (f : ℕ → ℕ → ℕ) → Additive f → (q : ℕ) → Dec (q ≡ p)

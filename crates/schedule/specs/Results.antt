@@ -72,7 +72,7 @@ module _ (s : Sheet) (room : ℕ) where
           let y = also_given (lateness (late_greatest ts (length ts))) _ x.1 in
           record {
             judged_fine = z.judged_fine;
-            accepted = idle_accepted (sound_proper (judged_sound s z.judged_fine)) (lateness_fine (late_greatest ts (length ts)) y.0);
+            accepted = idle_accepted (sound_proper _ (judged_sound s z.judged_fine)) (lateness_fine (late_greatest ts (length ts)) y.0);
             hyperperiod_is = cc (y.1, z.hyperperiod_is);
             hyperperiod_most = z.hyperperiod_most;
             jobs_are = cc (y.1, z.jobs_are);
@@ -111,7 +111,7 @@ module _ (s : Sheet) (room : ℕ) where
             hyperperiod_most = z.hyperperiod_most;
             jobs_most = z.jobs_most;
             jobs_fit = omega (arith, z.jobs_are, ltb-false room size.jobs l);
-            greatest_late = subst (GreatestLate ts) same (busy_greatest (sound_proper (judged_sound s z.judged_fine)) p);
+            greatest_late = subst (GreatestLate ts) same (busy_greatest (sound_proper _ (judged_sound s z.judged_fine)) p);
           }
             where
               same : j ≡ i
@@ -120,7 +120,7 @@ module _ (s : Sheet) (room : ℕ) where
   pub late_responses : {i : ℕ} → LateWhen s room i → responses_of s room ≡ refused 15 (i ∷ [])
   late_responses f =
       responses_late s room (sizes_fit s f.judged_fine f.hyperperiod_most f.jobs_most) f.jobs_fit
-      (greatest_busy (sound_proper (judged_sound s f.judged_fine)) f.greatest_late)
+      (greatest_busy (sound_proper _ (judged_sound s f.judged_fine)) f.greatest_late)
 
 -- The tasks of a sheet that is answered are taken.
 pub given_taken : (s : Sheet) (room : ℕ) {totals : Totals} → responses_of s room ≡ given totals → Taken (tasks_of s)
@@ -128,8 +128,8 @@ given_taken s room e =
     let g = responses_given s room e in
     let sound = judged_sound s g.judged_fine in
     record {
-      count_most = omega (arith, tasks_length sound, sound.count_most);
-      period_most = λ i l. (task_allowed sound i l).period_most;
+      count_most = omega (arith, tasks_length _ sound, sound.count_most);
+      period_most = λ i l. (task_allowed _ sound i l).period_most;
       accepted = g.accepted;
       short = g.hyperperiod_most;
       few = g.jobs_most;

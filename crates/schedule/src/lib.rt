@@ -47,8 +47,8 @@ fn hyperperiod(s: Sheet) -> Multiple
 
 // The jobs of all tasks before tick h, the hyperperiod.
 fn job_count(s: Sheet, h: u32) -> u32
-    requires fact_1 { Sound s }
-    requires fact_2 { Period s h }
+    requires sound { Sound s }
+    requires period_of_sheet { Period s h }
     ensures { result ≡ all_jobs (tasks_of s) }
 {
     let n = s.count as usize;
@@ -101,8 +101,8 @@ fn period_place(periods: &[u32; 16], size: usize, period: u32) -> usize
 // The periods of the tasks that outrank task i, how many they are, and the budgets of each. Tasks of one period are released
 // together, so they take one place.
 fn gather_level(s: Sheet, i: usize, periods: &mut [u32; 16], budgets: &mut [u32; 16]) -> usize
-    requires fact_1 { Sound s }
-    requires fact_2 { (i < s.count) × (length periods.old ≡ 16) × (length budgets.old ≡ 16) }
+    requires sound { Sound s }
+    requires level_lengths { (i < s.count) × (length periods.old ≡ 16) × (length budgets.old ≡ 16) }
     ensures { Level (tasks_of s) i periods.new budgets.new result }
 {
     let n = s.count as usize;
@@ -176,8 +176,8 @@ fn walk_row(
     h: u32,
     row: &mut [u32],
 ) -> Row
-    requires fact_1 { Places periods.now budgets.now size }
-    requires fact_2 { Walk (coming own periods.now budgets.now size) own.period h (length row.old) }
+    requires places_fit { Places periods.now budgets.now size }
+    requires walk_fits { Walk (coming own periods.now budgets.now size) own.period h (length row.old) }
     ensures { Walked (coming own periods.now budgets.now size) own.period h row.new result }
 {
     let mut next = [0u32; 16];
@@ -211,9 +211,9 @@ fn walk_row(
 
 // Fills the row of task i, from the numbers of its level.
 fn fill_row(s: Sheet, i: usize, h: u32, row: &mut [u32]) -> Row
-    requires fact_1 { Sound s }
-    requires fact_2 { Period s h }
-    requires fact_3 { (i < s.count) × (length row.old ≡ jobs (tasks_of s) i) }
+    requires sound { Sound s }
+    requires period_of_sheet { Period s h }
+    requires row_length { (i < s.count) × (length row.old ≡ jobs (tasks_of s) i) }
     ensures { RowFilled (tasks_of s) i row.new result }
 {
     let mut periods = [0u32; 16];
@@ -224,10 +224,10 @@ fn fill_row(s: Sheet, i: usize, h: u32, row: &mut [u32]) -> Row
 
 // What the rows tell up to that of task i, from what those before it and its own tell.
 fn noted(s: Sheet, found: Found, i: usize, row: Row) -> Found
-    requires fact_1 { Sound s }
-    requires fact_2 { i < s.count }
-    requires fact_3 { FoundTo (tasks_of s) i found }
-    requires fact_4 { Noted (tasks_of s) i row }
+    requires sound { Sound s }
+    requires task_known { i < s.count }
+    requires found_before { FoundTo (tasks_of s) i found }
+    requires row_noted { Noted (tasks_of s) i row }
     ensures { FoundTo (tasks_of s) (suc i) result }
 {
     let index = i as u8;
@@ -257,9 +257,9 @@ fn noted(s: Sheet, found: Found, i: usize, row: Row) -> Found
 
 // Fills the table row by row, each in its own part of the table.
 fn fill_rows(s: Sheet, h: u32, table: &mut [u32]) -> Found
-    requires fact_1 { Sound s }
-    requires fact_2 { Period s h }
-    requires fact_3 { all_jobs (tasks_of s) ≤ length table.old }
+    requires sound { Sound s }
+    requires period_of_sheet { Period s h }
+    requires room { all_jobs (tasks_of s) ≤ length table.old }
     ensures { Filled (tasks_of s) s.count (all_jobs (tasks_of s)) table.old table.new result }
 {
     let n = s.count as usize;
@@ -350,9 +350,9 @@ pub fn responses_refusal(a: Responses) -> Refusal
 
 // R of each task, in sixteen places, from the rows of a table.
 fn greatest_each(s: Sheet, h: u32, table: &[u32]) -> [u32; 16]
-    requires fact_1 { Sound s }
-    requires fact_2 { Period s h }
-    requires fact_3 { Holds (tasks_of s) table.now }
+    requires sound { Sound s }
+    requires period_of_sheet { Period s h }
+    requires holds_table { Holds (tasks_of s) table.now }
     ensures { result ≡ places 16 0 s.count (task_response (tasks_of s)) }
 {
     let n = s.count as usize;

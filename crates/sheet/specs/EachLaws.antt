@@ -48,6 +48,7 @@ module _ (P : Field → Type 0) where
 
   all_only : (kind : Kind) (f : Field) → All P (only kind f) → If kind → P f
   all_only new f a u = a.0
+  all_only old f a u = elim u [ ]
 
   entries_all : (c i k : ℕ) → ((j : ℕ) → j < i + k → P (Entry c j)) → All P (entry_fields c i k)
   unfolding entry_fields
@@ -58,6 +59,7 @@ module _ (P : Field → Type 0) where
   unfolding entry_fields
   all_entries c i (suc k) a zero l = subst (λ x. P (Entry c x)) (omega arith) a.0
   all_entries c i (suc k) a (suc j) l = subst (λ x. P (Entry c x)) (omega arith) (all_entries c (suc i) k a.1 j (omega arith))
+  all_entries c i zero a j l = elim l [ ]
 
   abbrev Task : ℕ → Type 0
   Task i = P (Period i) × P (Budget i) × P (Rank i)
@@ -71,6 +73,7 @@ module _ (P : Field → Type 0) where
   unfolding task_fields
   all_tasks i (suc k) a zero l = subst Task (omega arith) (a.0, a.1.0, a.1.1.0)
   all_tasks i (suc k) a (suc j) l = subst Task (omega arith) (all_tasks (suc i) k a.1.1.1 j (omega arith))
+  all_tasks i zero a j l = elim l [ ]
 
   module _ (kind : Kind) (v : Values) where
     abbrev Chain : ℕ → Type 0
@@ -99,6 +102,7 @@ module _ (P : Field → Type 0) where
             subst Chain (omega arith)
             (all_only kind (Limit c) here.0, here.1.0, λ i l. subst (λ x. P (Entry c x)) (omega arith) (all_entries c 0 (entries v c) last.0 i l))
         go (suc j) l later = subst Chain (omega arith) (later j (omega arith))
+    all_chains c zero a j l = elim l [ ]
 
     pub each_all : ((f : Field) → On kind v f → P f) → All P (ordered kind v)
     each_all h =

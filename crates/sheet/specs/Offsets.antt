@@ -22,7 +22,7 @@ pub record FieldRefused (judge : ℕ → Field → Judgement) (fs : List Field) 
   pub earlier : List Field
   pub field : Field
   pub later : List Field
-  pub in_order : fs ≡ earlier ++ field ∷ later
+  pub listed : fs ≡ earlier ++ field ∷ later
   pub taken : in_order judge 0 earlier ≡ fine
   pub wrong : judge (widths earlier) field ≡ refused number []
   pub begins : values ≡ offset number (widths earlier)
@@ -85,7 +85,7 @@ record Found (judge : ℕ → Field → Judgement) (fs : List Field) (at number 
   before : List Field
   field : Field
   after : List Field
-  in_order : fs ≡ before ++ field ∷ after
+  listed : fs ≡ before ++ field ∷ after
   taken : in_order judge at before ≡ fine
   wrong : judge (at + widths before) field ≡ refused number []
   value_is : values ≡ offset number (at + widths before)
@@ -108,7 +108,7 @@ module _ (judge : ℕ → Field → Judgement) (alone : (at : ℕ) (f : Field) �
             before = f ∷ x.before;
             field = x.field;
             after = x.after;
-            in_order = ap (λ l. f ∷ l) x.in_order;
+            listed = ap (λ l. f ∷ l) x.listed;
             taken = ap₂ also q x.taken;
             wrong = ap (λ a. judge a x.field) (sym here) ∙ x.wrong;
             value_is = x.value_is ∙ ap (offset number) here;
@@ -121,7 +121,7 @@ module _ (judge : ℕ → Field → Judgement) (alone : (at : ℕ) (f : Field) �
             before = [];
             field = f;
             after = fs;
-            in_order = refl;
+            listed = refl;
             taken = refl;
             wrong = ap (λ a. judge a f) (sym here) ∙ q ∙ ap (refused n) (alone at f n vs q) ∙ ap (λ k. refused k []) same;
             value_is = sym place_is ∙ ap₂ offset same here;
@@ -135,7 +135,7 @@ module _ (judge : ℕ → Field → Judgement) (alone : (at : ℕ) (f : Field) �
         earlier = x.before;
         field = x.field;
         later = x.after;
-        in_order = x.in_order;
+        listed = x.listed;
         taken = x.taken;
         wrong = ap (λ a. judge a x.field) (sym here) ∙ x.wrong;
         begins = x.value_is ∙ ap (offset number) here;
@@ -158,7 +158,7 @@ module _ (judge : ℕ → Field → Judgement) (alone : (at : ℕ) (f : Field) �
   refused_field : (fs : List Field) (number : ℕ) (values : List ℕ) → FieldRefused judge fs number values → in_order told_at 0 fs ≡ refused number values
   refused_field fs number values x =
       let here : widths x.earlier ≡ 0 + widths x.earlier = omega arith in
-      ap (in_order told_at 0) x.in_order
+      ap (in_order told_at 0) x.listed
       ∙ first_wrong x.earlier x.field x.later 0 number x.taken (ap (λ k. judge k x.field) (sym here) ∙ x.wrong)
       ∙ ap (λ k. refused number (offset number k)) (sym here)
       ∙ ap (refused number) (sym x.begins)

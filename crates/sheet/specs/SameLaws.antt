@@ -85,6 +85,7 @@ module _ (kind : Kind) (v : Values) where
 
   gated : (k : Kind) (x d : ℕ) → If k → if_new k x d ≡ x
   gated new x d u = refl
+  gated old x d u = elim u [ ]
 
   pub edition_held : If kind → value (sheet_by kind v) Edition ≡ 2 → v Edition ≡ 2
   edition_held u h = go (eqb (v Edition) 1) (sym (gated kind (edition_by v) 1 u) ∙ h)

@@ -1,5 +1,5 @@
 -- A sheet that is judged fine has the numbers that are allowed, and so they fit their fields.
-use Rattle.std.specs.Prelude.{◌≡◌, refl, ◌≢◌, Bool, true, false, cond, ℕ, suc, ◌-◌, ◌^◌, ◌≤◌, ◌<◌, ltb, leb, eqb}
+use Rattle.std.specs.Prelude.{◌≡◌, refl, ◌≢◌, Bool, true, false, cond, ℕ, zero, suc, ◌-◌, ◌^◌, ◌≤◌, ◌<◌, ltb, leb, eqb}
 use Rattle.std.proofs.Common.{sym, ap, ◌∙◌, arith, ltb-false, leb-false, eqb-true}
 use Rattle.std.proofs.Math.Decide.{dec_lt}
 use Rattle.std.proofs.lemmas.Bool.{eqb-false}
@@ -34,6 +34,7 @@ not_among f (suc i) v e j l q = go (eqb (f i) v) refl e (not_among f i v)
         pick : Dec (j < i) → ⊥
         pick (yes k) = rest h j k q
         pick (no k) = eqb-false (f i) v p (ap f {x = i} {y = j} (omega arith) ∙ q)
+not_among f zero v e j l q = elim l [ ]
 
 -- values that none repeats among those before it are all different
 all_differ : (f : ℕ → ℕ) (n : ℕ) → ((i : ℕ) → i < n → among f i (f i) ≡ false) → (i j : ℕ) → i < n → j < n → f i ≡ f j → i ≡ j
@@ -116,6 +117,7 @@ mark_is v u = go (eqb (v Mark) 31) refl u
   where
     go : (b : Bool) → eqb (v Mark) 31 ≡ b → If (cond b new old) → v Mark ≡ 31
     go true e u = eqb-true (v Mark) 31 e
+    go false e u = elim u [ ]
 
 pub values_fit : (kind : Kind) (v : Values) → Within kind v → (If kind → v Mark ≡ 31) → ((i : ℕ) → v (Rank i) < 256) → (f : Field) → On kind v f → v f < 2 ^ width f
 values_fit kind v s mark ranks Mark o = omega (arith, mark o)
@@ -128,3 +130,4 @@ values_fit new v s mark ranks Chains o = omega (arith, s.chains_are o)
 values_fit kind v s mark ranks (Limit c) o = omega (arith, s.limit_most c o.0 o.1)
 values_fit kind v s mark ranks (Length c) o = omega (arith, s.length_most c o, s.count_most)
 values_fit kind v s mark ranks (Entry c i) o = omega (arith, s.entry_below c i o.0 (omega (arith, o.1)), s.count_most)
+values_fit old v s mark ranks Chains o = elim o [ ]

@@ -25,7 +25,7 @@ pub record Allowed (t : Task) : Type 0 where
   pub budget_positive : 0 < t.budget
   pub budget_most : t.budget ≤ t.period
 
-module _ {s : Sheet} (sound : Sound s) where
+module _ (s : Sheet) (sound : Sound s) where
   -- A place past the list holds no task, and so no period that is allowed.
   tasks_enough : s.count ≤ length s.tasks
   tasks_enough = go (dec_le s.count (length s.tasks))
@@ -98,24 +98,24 @@ entries_chain ts (p ∷ c ∷ rest) some known differ = (
 -- The chains
 
 -- how many there are
-pub chain_count_lem : {s : Sheet} → Sound s → chain_count s ≡ chains (kind_of (value s)) (value s)
-chain_count_lem {s} sound = go (eqb s.edition 1) sound
+pub chain_count_lem : (s : Sheet) → Sound s → chain_count s ≡ chains (kind_of (value s)) (value s)
+chain_count_lem s sound = go (eqb s.edition 1) sound
   where
     go : (b : Bool) → Within (cond (eqb (cond b 0 31) 31) new old) (value s) → cond b 1 s.suite ≡ chains (cond (eqb (cond b 0 31) 31) new old) (value s)
     go true w = refl
     go false w = sym (w.chains_are tt)
 
-pub chains_most : {s : Sheet} → Sound s → chain_count s ≤ 8
-chains_most {s} sound = omega (arith, chain_count_lem sound, chains_few (kind_of (value s)) (value s))
+pub chains_most : (s : Sheet) → Sound s → chain_count s ≤ 8
+chains_most s sound = omega (arith, chain_count_lem _ sound, chains_few (kind_of (value s)) (value s))
 
 -- a number from 1 to the count is that of a chain
 pub number_known : (s : Sheet) (number : ℕ) → 1 ≤ number → number ≤ chain_count s → lacks s number ≡ fine
 number_known s number l m = rw (le-ltb number 1 l, le-ltb (chain_count s) number m)
 
-module _ {s : Sheet} (sound : Sound s) (number : ℕ) (known : lacks s number ≡ fine) where
+module _ (s : Sheet) (sound : Sound s) (number : ℕ) (known : lacks s number ≡ fine) where
   -- the place of the chain among the eight
   pub chain_place : number - 1 < chains (kind_of (value s)) (value s)
-  chain_place = let r = inside 1 (chain_count s) number (when_fine _ 17 known) in omega (arith, r, chain_count_lem sound)
+  chain_place = let r = inside 1 (chain_count s) number (when_fine _ 17 known) in omega (arith, r, chain_count_lem _ sound)
 
   pub chain_length : length (chain_at s number).entries ≡ 16 → length (chain_of s number) ≡ (chain_at s number).length
   chain_length whole =
@@ -131,10 +131,10 @@ module _ {s : Sheet} (sound : Sound s) (number : ℕ) (known : lacks s number �
       let m : i < c.length = omega (arith, length-take c.length c.entries) in (get_or-take c.length c.entries i 0 m, m)
 
   pub entry_listed : (i : ℕ) → i < length (chain_of s number) → get_or (chain_of s number) i 0 < length (tasks_of s)
-  entry_listed i l = let e = entry_at i l in omega (arith, e.0, sound.entry_below (number - 1) i chain_place e.1, tasks_length sound)
+  entry_listed i l = let e = entry_at i l in omega (arith, e.0, sound.entry_below (number - 1) i chain_place e.1, tasks_length _ sound)
 
   pub chain_known : Chain (tasks_of s) (first_of (chain_of s number)) (rest_of (chain_of s number))
-  chain_known = entries_chain (tasks_of s) (chain_of s number) (omega (arith, tasks_length sound, sound.count_least))
+  chain_known = entries_chain (tasks_of s) (chain_of s number) (omega (arith, tasks_length _ sound, sound.count_least))
       entry_listed
       (λ i l q.
       let a = entry_at i (omega arith) in

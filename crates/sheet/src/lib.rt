@@ -17,7 +17,7 @@ ghost use Rattle.sheet.specs.declared.Field.TheVariants.{Mark, Rank, Limit, Leng
 use answers::{Refusal, Verdict};
 use theory::Task;
 
-#[derive(Drop)]
+#[derive(Clone, Copy)]
 pub struct Chain {
     pub entries: [u8; 16],
     pub length: u8,
@@ -25,7 +25,7 @@ pub struct Chain {
 }
 
 // `count` tasks and a suite of so many chains. An old sheet is edition 1: it uses chain one, and neither `suite` nor a limit.
-#[derive(Drop)]
+#[derive(Clone, Copy)]
 pub struct Sheet {
     pub tasks: [Task; 16],
     pub chains: [Chain; 8],
@@ -34,20 +34,20 @@ pub struct Sheet {
     pub suite: u8,
 }
 
-#[derive(Drop)]
+#[derive(Clone, Copy)]
 pub struct Reading {
     pub verdict: Verdict,
     pub sheet: Sheet,
 }
 
-#[derive(Drop)]
+#[derive(Clone, Copy)]
 pub enum Written {
     Bytes(usize),
     No(Refusal),
 }
 
 // A field of the sheet; those of a task and of a chain with their index.
-#[derive(Drop)]
+#[derive(Clone, Copy)]
 enum Field {
     Mark,
     Edition,

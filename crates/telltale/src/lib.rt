@@ -8,7 +8,7 @@ use answers::Refusal;
 
 // Whether a reading is under way, its counter, the longest delay, and how many stamps were accepted.
 #[repr(C)]
-#[derive(Drop)]
+#[derive(Clone, Copy)]
 pub struct Record {
     pub underway: bool,
     pub counter: u32,
@@ -17,14 +17,14 @@ pub struct Record {
 }
 
 // The elapsed ticks of an accepted stamp, or its refusal.
-#[derive(Drop)]
+#[derive(Clone, Copy)]
 pub enum Elapsed {
     Ticks(u32),
     No(Refusal),
 }
 
 // What a stamp answers, and the record that it leaves.
-#[derive(Drop)]
+#[derive(Clone, Copy)]
 pub struct Stamped {
     pub answer: Elapsed,
     pub left: Record,

@@ -202,7 +202,7 @@ pub fn show(s: Sheet, out: &mut [u8]) -> Written
 // ---- a text read
 
 // A word of a text: what it is, and the number, or the task that has the name.
-#[derive(Drop)]
+#[derive(Clone, Copy)]
 struct Word {
     class: u8,
     value: u32,
@@ -210,7 +210,7 @@ struct Word {
 
 // What was typed so far, what is wanted next, and what is wrong, 0 for nothing. The task and the chain that are being typed stand in the
 // places after `count` and `suite`. Edition 0 is one that was not said.
-#[derive(Drop)]
+#[derive(Clone, Copy)]
 struct Draft {
     tasks: [Task; 16],
     chains: [Chain; 8],
@@ -221,13 +221,13 @@ struct Draft {
     wrong: u8,
 }
 
-#[derive(Drop)]
+#[derive(Clone, Copy)]
 struct Ended {
     draft: Draft,
     at: usize,
 }
 
-#[derive(Drop)]
+#[derive(Clone, Copy)]
 struct Spot {
     line: u32,
     column: u32,
@@ -235,7 +235,7 @@ struct Spot {
 
 // The sheet that a text says, or what is wrong and where, with a blank sheet: a mistake in the text by its number, a refusal by its number and
 // 100.
-#[derive(Drop)]
+#[derive(Clone, Copy)]
 pub struct Parsed {
     pub fault: u8,
     pub line: u32,

@@ -3,7 +3,7 @@
 // What it promises stands in specs/Results: no schedule exceeds the sampling figure from a release (Demand3), nor the worst from a flag (Flags).
 
 // A task of a timing sheet: released every `period` ticks, it runs for 1 to `budget` of them; a greater rank goes first.
-#[derive(Drop)]
+#[derive(Clone, Copy)]
 pub struct Task {
     pub period: u32,
     pub budget: u32,

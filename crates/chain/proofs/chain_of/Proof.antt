@@ -18,7 +18,7 @@ module _ (a : tie.Start) where
   known = (inside 1 (chain_count a.args.t1) a.args.number (when_fine _ 17 a.requires.1)).0
 
   few : a.args.number - 1 < 8
-  few = go (kind_of (value a.args.t1)) (chain_place a.pre.0 a.args.number a.pre.1)
+  few = go (kind_of (value a.args.t1)) (chain_place _ a.pre.0 a.args.number a.pre.1)
     where
       go : (kind : Kind) → a.args.number - 1 < chains kind (value a.args.t1) → a.args.number - 1 < 8
       go old l = omega arith

@@ -147,7 +147,7 @@ delay-in-requires c κs =
           f.1.0,
           (
             f.1.1,
-            rw (judged (done c.before.before)).before.first_period.ensures.0 (job_early f.0.1.accepted.proper (first_of (chain_of a.s a.number)) (chain_head (tasks_of a.s) (first_of (chain_of a.s a.number)) (rest_of (chain_of a.s a.number)) (chain_known f.0.0 a.number (has (sizing (sized (judged (done c.before.before))))))) a.release (early (judged (done c.before.before)).before.before)),
+            rw (judged (done c.before.before)).before.first_period.ensures.0 (job_early f.0.1.accepted.proper (first_of (chain_of a.s a.number)) (chain_head (tasks_of a.s) (first_of (chain_of a.s a.number)) (rest_of (chain_of a.s a.number)) (chain_known _ f.0.0 a.number (has (sizing (sized (judged (done c.before.before))))))) a.release (early (judged (done c.before.before)).before.before)),
           ),
         ),
       ),

@@ -28,7 +28,7 @@ loop-holds c = (omega arith, c.before.chain_count.ensures, c.no_summaries.ensure
 
 -- A turn is one of eight.
 few : (c : tie.In-loop invariant-loop decreases-loop) → c.before.loop.c < 8
-few c = let turn = c.before in omega (arith, turn.loop.invariant, chains_most (start turn).requires.0.0)
+few c = let turn = c.before in omega (arith, turn.loop.invariant, chains_most _ (start turn).requires.0.0)
 
 add-summary-of : tie.Need-overflow-add-summary-of invariant-loop decreases-loop
 add-summary-of c = omega (arith, few c)

@@ -17,7 +17,7 @@ known c =
     let sound = a.requires.0 in
     let some = lent_some sound a.args.number a.requires.1 c.chain_of.result c.chain_of.ensures in
     let first = lent_first sound a.args.number a.requires.1 c.chain_of.result c.chain_of.ensures in
-    omega (arith, first, entry_listed sound a.args.number a.requires.1 0 some, tasks_length sound)
+    omega (arith, first, entry_listed _ sound a.args.number a.requires.1 0 some, tasks_length _ sound)
 
 mul-result : tie.Need-overflow-mul-result
 mul-result c = omega (arith, known c.before, c.before.before.requires.0.count_most)
@@ -30,9 +30,9 @@ returns c =
     let d = c.before in
     let a = d.before in
     let p = get_or d.chain_of.result.entries 0 0 in
-    let t = place_allowed a.requires.0 p (known d) in
+    let t = place_allowed _ a.requires.0 p (known d) in
     let first = lent_first a.requires.0 a.args.number a.requires.1 d.chain_of.result d.chain_of.ensures in
-    (sym (period_at a.requires.0 p (known d)) ∙ ap (period (tasks_of a.args.t1)) first, t.period_positive, t.period_most)
+    (sym (period_at _ a.requires.0 p (known d)) ∙ ap (period (tasks_of a.args.t1)) first, t.period_positive, t.period_most)
 
 pub first_period_spec : {M : Type 1} → statement M
 first_period_spec = tie.close (tie.spec (λ c κs. search rules) (λ c. search rules) (λ c. search rules) mul-result element-copy-out-result returns)

@@ -37,7 +37,7 @@ add-from c =
     let s = t.before in
     let l = t.loop in
     let known : l.i < s.args.t1.count = omega arith in
-    omega (arith, l.inv.1, jobs_at s.pre.0.0 s.pre.1 l.i known, row_few s.pre.0.1 l.i (omega (arith, tasks_length s.pre.0.0)))
+    omega (arith, l.inv.1, jobs_at _ s.pre.0.0 s.pre.1 l.i known, row_few s.pre.0.1 l.i (omega (arith, tasks_length _ s.pre.0.0)))
 
 loop-again : tie.Need-loop-preserved invariant-loop decreases-loop
 unfolding sum
@@ -46,14 +46,14 @@ loop-again c =
     let s = t.before in
     let l = t.loop in
     let known : l.i < s.args.t1.count = omega arith in
-    let count = sym (jobs_at s.pre.0.0 s.pre.1 l.i known) in
+    let count = sym (jobs_at _ s.pre.0.0 s.pre.1 l.i known) in
     (omega arith, rw add-one (ap₂ ◌+◌ l.inv.1 count), planned_more s.pre.0.0 l.i known l.from _ l.inv.2 l.inv.1 count)
 
 returns : tie.Need-returns invariant-loop decreases-loop
 returns c =
     let s = c.before.before in
     let l = c.before.loop in
-    subst (λ n. Planned (tasks_of s.args.t1) n l.plan) {x = l.i} {y = length (tasks_of s.args.t1)} (omega (arith, tasks_length s.requires.0.0)) l.invariant.2
+    subst (λ n. Planned (tasks_of s.args.t1) n l.plan) {x = l.i} {y = length (tasks_of s.args.t1)} (omega (arith, tasks_length _ s.requires.0.0)) l.invariant.2
 
 pub plan_of_spec : {M : Type 1} → statement M
 plan_of_spec =

@@ -65,8 +65,8 @@ returns c =
     sym (every_fails (suc (length (rest_of (chain a)))) (outranked a) e (omega (arith, all a)) (le-ltb (rank (tasks_of a.args.t1) a.args.i) (rank (tasks_of a.args.t1) (get_or (chain a) e 0)) (omega (
       arith,
       c.if1.true,
-      rank_at_lem a.requires.0 a.args.i a.requires.1.0,
-      rank_at_lem a.requires.0 (get_or (chain a) e 0) (a.requires.1.1.entry_below e (omega arith)),
+      rank_at_lem _ a.requires.0 a.args.i a.requires.1.0,
+      rank_at_lem _ a.requires.0 (get_or (chain a) e 0) (a.requires.1.1.entry_below e (omega arith)),
     ))))
 
 loop-again : tie.Need-loop-preserved invariant-loop decreases-loop
@@ -78,8 +78,8 @@ loop-again c =
       below_suc (λ place. rank (tasks_of a.args.t1) a.args.i < rank (tasks_of a.args.t1) (get_or (chain a) place 0)) l.invariant.1 (omega (
         arith,
         c.if1.false,
-        rank_at_lem a.requires.0 a.args.i a.requires.1.0,
-        rank_at_lem a.requires.0 (get_or (chain a) l.e 0) (a.requires.1.1.entry_below l.e (omega arith)),
+        rank_at_lem _ a.requires.0 a.args.i a.requires.1.0,
+        rank_at_lem _ a.requires.0 (get_or (chain a) l.e 0) (a.requires.1.1.entry_below l.e (omega arith)),
       )),
     )
 

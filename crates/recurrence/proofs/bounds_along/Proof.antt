@@ -29,17 +29,17 @@ element-copy-out-bound : tie.Need-element-copy-out-bound
 element-copy-out-bound c = omega (arith, known (start c), (start c).requires.0.count_most)
 
 sub-bound : tie.Need-overflow-sub-bound
-sub-bound c = let a = start c in omega (arith, (place_allowed a.pre.0 (get_or a.args.chain.now 0 0) (known a)).period_positive)
+sub-bound c = let a = start c in omega (arith, (place_allowed _ a.pre.0 (get_or a.args.chain.now 0 0) (known a)).period_positive)
 
 add-bound : tie.Need-overflow-add-bound
 add-bound c =
     let a = start c in
-    omega (arith, c.bound_along.ensures, bound_small a.pre.0 a.pre.1.0 a.pre.1.1, (place_allowed a.pre.0 (get_or a.args.chain.now 0 0) (known a)).period_most)
+    omega (arith, c.bound_along.ensures, bound_small a.pre.0 a.pre.1.0 a.pre.1.1, (place_allowed _ a.pre.0 (get_or a.args.chain.now 0 0) (known a)).period_most)
 
 returns : tie.Need-returns
 returns c =
     let a = start c in
-    ap₂ (λ b T. record { sampling_bound = b; bound = b + (T - 1) }) c.bound_along.ensures (sym (period_at a.pre.0 (get_or a.args.chain.now 0 0) (known a)))
+    ap₂ (λ b T. record { sampling_bound = b; bound = b + (T - 1) }) c.bound_along.ensures (sym (period_at _ a.pre.0 (get_or a.args.chain.now 0 0) (known a)))
 
 pub bounds_along_spec : {M : Type 1} → statement M
 bounds_along_spec =

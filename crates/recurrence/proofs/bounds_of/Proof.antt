@@ -28,7 +28,7 @@ module _ (c : tie.After-chain-of) where
   lent = ap (λ x. take x.length x.entries) c.chain_of.ensures.0
 
   long : length (chain_of (start c).args.s (start c).args.number) ≡ (chain_at (start c).args.s (start c).args.number).length
-  long = chain_length (start c).requires.0 (start c).args.number (start c).requires.1.1 whole
+  long = chain_length _ (start c).requires.0 (start c).args.number (start c).requires.1.1 whole
 
 chain-of-requires : tie.Need-chain-of-requires
 chain-of-requires c κs = (c.requires.0, c.requires.1.1)
@@ -36,7 +36,7 @@ chain-of-requires c κs = (c.requires.0, c.requires.1.1)
 array-share-prefix-entries : tie.Need-array-share-prefix-entries
 array-share-prefix-entries c =
     let d = c.before.before in
-    omega (arith, length-take (chain d).length (chain d).entries, ap length (lent d), long d, ap (λ x. x.length) d.chain_of.ensures.0, d.chain_of.ensures.1, chain_most (start d).requires.0 (start d).args.number (start d).requires.1.1)
+    omega (arith, length-take (chain d).length (chain d).entries, ap length (lent d), long d, ap (λ x. x.length) d.chain_of.ensures.0, d.chain_of.ensures.1, chain_most _ (start d).requires.0 (start d).args.number (start d).requires.1.1)
 
 slice-aggregate-bounds-along : tie.Need-slice-aggregate-bounds-along
 slice-aggregate-bounds-along c = let d = c.before.before.before in ap (λ x. x.length) d.chain_of.ensures.0 ∙ sym (long d) ∙ sym (ap length (lent d))

@@ -22,15 +22,15 @@ decreases-loop i periods budgets size s own candidate₀ candidate = ((get_or s.
 loop-holds : tie.Need-loop-init invariant-loop decreases-loop
 loop-holds c =
     let ts = tasks_of c.args.t1 in
-    subst (Climbs ts (budget ts) c.args.i) (budget_at c.requires.0 c.args.i c.requires.1.0) (climb_start ts (budget ts) c.args.i)
+    subst (Climbs ts (budget ts) c.args.i) (budget_at _ c.requires.0 c.args.i c.requires.1.0) (climb_start ts (budget ts) c.args.i)
 
 add-value : tie.Need-overflow-add-value invariant-loop decreases-loop
-add-value c = let a = c.before.before in omega (arith, (place_allowed a.requires.0 a.args.i a.requires.1.0).period_most)
+add-value c = let a = c.before.before in omega (arith, (place_allowed _ a.requires.0 a.args.i a.requires.1.0).period_most)
 
 claim-requires : tie.Need-claim-requires invariant-loop decreases-loop
 claim-requires c κs =
     let a = c.before.before in
-    let t = place_allowed a.requires.0 a.args.i a.requires.1.0 in
+    let t = place_allowed _ a.requires.0 a.args.i a.requires.1.0 in
     (a.requires.1.1.placed, (omega (arith, t.budget_most, t.period_most), omega (arith, c.if1.false, t.period_most)))
 
 -- The next candidate is the claim at this one.
@@ -47,18 +47,18 @@ loop-again : tie.Need-loop-preserved invariant-loop decreases-loop
 loop-again c =
     let a = c.before.before.before.before in
     let ts = tasks_of a.args.t1 in
-    subst (Climbs ts (budget ts) a.args.i) (sym (next_is c)) (climb_step c.before.before.before.loop.invariant (sound_proper a.requires.0))
+    subst (Climbs ts (budget ts) a.args.i) (sym (next_is c)) (climb_step c.before.before.before.loop.invariant (sound_proper _ a.requires.0))
 
 returns : tie.Need-returns invariant-loop decreases-loop
 returns c =
     let a = c.before.before in
-    let T = period_at a.requires.0 a.args.i a.requires.1.0 in
+    let T = period_at _ a.requires.0 a.args.i a.requires.1.0 in
     omega (arith, T, climb_over c.before.loop.invariant (omega (arith, T, c.if1.true)))
 
 returns-2 : tie.Need-returns-2 invariant-loop decreases-loop
 returns-2 c =
     let a = c.before.before.before.before in
-    let T = period_at a.requires.0 a.args.i a.requires.1.0 in
+    let T = period_at _ a.requires.0 a.args.i a.requires.1.0 in
     climb_fixed c.before.before.before.loop.invariant (omega (arith, T, c.before.before.if1.false))
     (sym (c.before.claim.ensures ∙ claim_is a.requires.0 a.args.i a.requires.1.0 a.requires.1.1 c.before.before.before.loop.candidate) ∙ c.if2.true)
 

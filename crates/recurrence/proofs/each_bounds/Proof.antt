@@ -28,7 +28,7 @@ loop-holds c = (omega arith, c.before.chain_count.ensures, c.no_bounds.ensures)
 
 -- A turn is one of eight.
 few : (c : tie.In-loop invariant-loop decreases-loop) → c.before.loop.c < 8
-few c = let turn = c.before in omega (arith, turn.loop.invariant, chains_most (start turn).requires.0)
+few c = let turn = c.before in omega (arith, turn.loop.invariant, chains_most _ (start turn).requires.0)
 
 add-bounds-of : tie.Need-overflow-add-bounds-of invariant-loop decreases-loop
 add-bounds-of c = omega (arith, few c)

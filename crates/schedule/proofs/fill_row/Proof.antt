@@ -20,14 +20,14 @@ walk-row-requires : tie.Need-walk-row-requires
 walk-row-requires c κs =
     let a = start c in
     let g = (gathered c).gather_level.ensures in
-    (g.places, rw (← task_at_lem a.pre.0 a.args.i a.pre.1.1.0, coming_load g, a.pre.1.1.1) (walkable a.pre.0 a.args.i a.pre.1.1.0 a.pre.1.0))
+    (g.places, rw (← task_at_lem _ a.pre.0 a.args.i a.pre.1.1.0, coming_load g, a.pre.1.1.1) (walkable a.pre.0 a.args.i a.pre.1.1.0 a.pre.1.0))
 
 returns : tie.Need-returns
 returns c =
     let a = start (walked c) in
     let g = (gathered (walked c)).gather_level.ensures in
     let w = c.before.before.walk_row in
-    row_filled a.pre.0 a.args.i a.pre.1.1.0 a.pre.1.0 w.new.1.1.1.1.1.0 w.result (w.auto.1.1.1.1.1.0 ∙ a.pre.1.1.1) (rw (← task_at_lem a.pre.0 a.args.i a.pre.1.1.0, coming_load g) at w.ensures)
+    row_filled a.pre.0 a.args.i a.pre.1.1.0 a.pre.1.0 w.new.1.1.1.1.1.0 w.result (w.auto.1.1.1.1.1.0 ∙ a.pre.1.1.1) (rw (← task_at_lem _ a.pre.0 a.args.i a.pre.1.1.0, coming_load g) at w.ensures)
 
 pub fill_row_spec : {M : Type 1} → statement M
 fill_row_spec =

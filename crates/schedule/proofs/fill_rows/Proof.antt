@@ -78,7 +78,7 @@ fill-row-requires c κs =
     let l = c.before.before.loop in
     let known : l.i < a.args.t1.count = omega arith in
     let room : l.from + a.args.h / (get_or a.args.t1.tasks l.i none).period ≤ length l.table = omega (arith, a.pre.1.1, l.invariant.1, l.invariant.2.same_length, jobs_within a.pre.0 a.args.h l.i a.pre.1.0 known) in
-    (a.pre.0, (a.pre.1.0, (known, part_length l.from _ l.table room ∙ sym (jobs_at a.pre.0 a.pre.1.0.is_hyperperiod l.i known))))
+    (a.pre.0, (a.pre.1.0, (known, part_length l.from _ l.table room ∙ sym (jobs_at _ a.pre.0 a.pre.1.0.is_hyperperiod l.i known))))
 
 noted-requires : tie.Need-noted-requires invariant-loop decreases-loop
 noted-requires c κs =

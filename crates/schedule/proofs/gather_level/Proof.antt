@@ -33,7 +33,7 @@ add-budgets c =
     let a = t.before in
     let l = t.loop in
     let known : l.j < a.args.t1.count = omega arith in
-    omega (arith, l.inv.budgets_most place.period_place.result c.before.before.if2.true, place_allowed a.pre.0 l.j known, a.pre.0.count_most)
+    omega (arith, l.inv.budgets_most place.period_place.result c.before.before.if2.true, place_allowed _ a.pre.0 l.j known, a.pre.0.count_most)
 
 loop-again : tie.Need-loop-preserved invariant-loop decreases-loop
 loop-again c =

@@ -94,7 +94,7 @@ loop-again c =
       omega arith,
       l.inv.1,
       omega (arith, l.inv.2, jobs_next a.pre.0 a.args.h l.i a.pre.1.0 known),
-      ap₂ (λ x y. set x l.i y) l.inv.3 (c.greatest.ensures ∙ row_greatest ts a.args.table.now a.pre.1.1 l.i l.from _ (omega (arith, tasks_length a.pre.0)) l.inv.2 (jobs_at a.pre.0 a.pre.1.0.is_hyperperiod l.i known) (omega (arith, a.pre.1.1.enough, l.inv.2, jobs_within a.pre.0 a.args.h l.i a.pre.1.0 known))) ∙ places_set 16 0 (task_response ts) l.i (omega (arith, a.pre.0.count_most)),
+      ap₂ (λ x y. set x l.i y) l.inv.3 (c.greatest.ensures ∙ row_greatest ts a.args.table.now a.pre.1.1 l.i l.from _ (omega (arith, tasks_length _ a.pre.0)) l.inv.2 (jobs_at _ a.pre.0 a.pre.1.0.is_hyperperiod l.i known) (omega (arith, a.pre.1.1.enough, l.inv.2, jobs_within a.pre.0 a.args.h l.i a.pre.1.0 known))) ∙ places_set 16 0 (task_response ts) l.i (omega (arith, a.pre.0.count_most)),
     )
 
 returns : tie.Need-returns invariant-loop decreases-loop

@@ -1,0 +1,13 @@
+use mathlib.Core.Path.{◌≡◌, refl, sym, ap, ◌∙◌}
+use native.Mathlib.Nat.{mod-lt}
+use native.Mathlib.Omega.{arith}
+use borrow.Author.Rules.{rules}
+use Rattle.arith.specs.Whole.{gcd}
+use Rattle.arith.specs.WholeLaws.{gcd_zero, gcd_step}
+use Rattle.arith.proofs.gcd.Given as goal
+
+abbrev pub invariant-loop-rest : goal.invariant-loop-rest
+invariant-loop-rest l = gcd l.divisor l.rest ≡ gcd l.a l.b
+
+abbrev pub decreases-loop-rest : goal.decreases-loop-rest
+decreases-loop-rest l = l.rest

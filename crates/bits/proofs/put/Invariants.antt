@@ -1,0 +1,19 @@
+use mathlib.Core.Path.{◌≡◌, refl, sym, ap, ap₂, ◌∙◌}
+use mathlib.Core.Bool.{Bool}
+use mathlib.Core.List.{List}
+use Prim.Native.Nat.{ℕ, suc, ◌+◌, ◌-◌, ◌/◌, ◌%◌, ◌^◌, ◌≤◌, ◌<◌, min}
+use native.Mathlib.Nat.{mod-mod}
+use lib.Dec.{eqb}
+use native.Mathlib.Omega.{arith}
+use lib.ListN.{length, set, length-set}
+use lib.Seq.{sets}
+use Rattle.bits.specs.Bits.{odd, bits, unpack}
+use Rattle.bits.specs.Bytes.{length_unpack}
+use borrow.Author.Rules.{rules}
+use Rattle.bits.proofs.put.Given as goal
+
+abbrev pub invariant-loop-k : goal.invariant-loop-k
+invariant-loop-k l = (l.k ≤ l.end) × (l.end ≡ min l.width 32) × (length l.out ≡ length l.initial.out) × (sets (unpack l.out) (l.at + l.k) (bits (l.end - l.k) l.value) ≡ sets (unpack l.initial.out) l.at (bits l.end l.value))
+
+abbrev pub decreases-loop-k : goal.decreases-loop-k
+decreases-loop-k l = l.end - l.k

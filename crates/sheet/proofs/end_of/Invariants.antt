@@ -1,0 +1,16 @@
+use mathlib.Core.Path.{◌≡◌, ap, ◌∙◌}
+use Prim.Native.Nat.{ℕ, ◌+◌, ◌-◌, ◌*◌, ◌≤◌}
+use native.Mathlib.Omega.{arith}
+use Rattle.bits.specs.Bits.{bits}
+use Rattle.sheet.specs.SameLaws.{chains_few}
+use Rattle.sheet.specs.Fields.{kind_of, chains, fields, chain_fields, widths, value}
+use Rattle.sheet.specs.Order.{begins, next}
+use Rattle.sheet.specs.StepLaws.{end_from, chain_widths, no_chains_lem, chain_bits_small}
+use borrow.Author.Rules.{rules}
+use Rattle.sheet.proofs.end_of.Given as goal
+
+abbrev pub invariant-loop-c : goal.invariant-loop-c
+invariant-loop-c l = (l.c ≤ l.many) × (l.many ≡ chains (kind_of (value l.s)) (value l.s)) × (l.at ≤ 690 + 91 * l.c) × (l.at + widths (chain_fields (kind_of (value l.s)) (value l.s) l.c (l.many - l.c)) ≡ widths (fields (value l.s)))
+
+abbrev pub decreases-loop-c : goal.decreases-loop-c
+decreases-loop-c l = l.many - l.c

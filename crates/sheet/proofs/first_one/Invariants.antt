@@ -1,0 +1,14 @@
+use mathlib.Core.Path.{◌≡◌, refl, sym, ap, ◌∙◌}
+use Prim.Native.Nat.{suc, ◌+◌, ◌-◌, ◌≤◌}
+use native.Mathlib.Omega.{arith}
+use Rattle.bits.specs.Bits.{unpack, number}
+use Rattle.sheet.specs.Calls.{first_one}
+use Rattle.sheet.specs.TailLaws.{bit_one, bit_zero, first_one_here, first_one_past, first_one_end}
+use borrow.Author.Rules.{rules}
+use Rattle.sheet.proofs.first_one.Given as goal
+
+abbrev pub invariant-loop-k : goal.invariant-loop-k
+invariant-loop-k l = (l.at ≤ l.k) × (l.k ≤ l.end) × (first_one (unpack l.bytes) l.at (l.end - l.at) ≡ first_one (unpack l.bytes) l.k (l.end - l.k))
+
+abbrev pub decreases-loop-k : goal.decreases-loop-k
+decreases-loop-k l = l.end - l.k

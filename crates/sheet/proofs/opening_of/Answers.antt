@@ -1,0 +1,13 @@
+-- The two arms are the definition's.
+use mathlib.Core.Path.{sym, ap}
+use Prim.Native.Nat.{◌-◌}
+use native.Mathlib.Omega.{arith}
+use Rattle.sheet.specs.Order.{opening}
+use Rattle.sheet.specs.StepLaws.{old_edition, new_edition}
+use Rattle.sheet.proofs.opening_of.Goals as goal
+
+pub returns-then-edition-eq1 : goal.returns-then-edition-eq1
+returns-then-edition-eq1 c = sym (ap opening (old_edition c.args.edition (omega arith)))
+
+pub returns : goal.returns
+returns c = sym (ap opening (new_edition c.args.edition (λ e. omega arith)))

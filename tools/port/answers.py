@@ -90,7 +90,7 @@ def clause_path(text, head, labels):
         else:
             rest = digits[k:]
         return f".{head}.{labels[k]}" + "".join("." + d for d in rest)
-    return re.sub(r"\." + head + r"((?:\.[01])+)", turn, text)
+    return re.sub(r"\." + re.escape(head) + r"((?:\.[01])+)(?![\w-])", turn, text)
 
 
 def main(argv):
@@ -148,7 +148,92 @@ def turn(text, old, entry, crate, rel, source):
             for m in re.finditer(r"\bfn " + re.escape(f) + r"\b(?:<[^>]*>)?\(([^{]*?)\)(?: ->|\n| \{)", EVERY.get(p[3].split("::")[0], ""), re.S):
                 lent[p[2][1]] = re.findall(r"(?:^|[(,])\s*(?:mut )?(\w+): &(?:'\w+ )?mut", m.group(1))
 
+    def labels_of(path, kind):
+        crate_of, _, f = path.partition("::")
+        return requires_labels(EVERY.get(crate_of, ""), f.split("::")[-1])[0 if kind == "requires" else 1]
+
+    promised = {}
+    for p in entry["places"]:
+        if p[3] and p[2][1]:
+            ls = labels_of(p[3], "ensures")
+            if len(ls) > 1:
+                promised[p[2][1]] = ls
+
+    def as_record(goal, body):
+        """What a callee with several named clauses requires is a record of them."""
+        if "-requires" not in goal:
+            return body
+        for path in sorted(entry["params"], key=len, reverse=True):
+            f = path.split("::")[-1]
+            if goal.startswith(f + "-"):
+                ls = labels_of(path, "requires")
+                break
+        else:
+            return body
+        if len(ls) < 2:
+            return body
+        # the last parenthesized group that ends the body
+        text = body.rstrip()
+        if not text.endswith(")"):
+            notes.append(f"{goal}: a record of {ls} is due")
+            return body
+        def group(text):
+            depth = 0
+            for i in range(len(text) - 1, -1, -1):
+                if text[i] in ")]}":
+                    depth += 1
+                elif text[i] in "([{":
+                    depth -= 1
+                    if depth == 0:
+                        return i
+            return 0
+        def parts(inner):
+            out, depth, cur = [], 0, ""
+            for ch in inner:
+                if ch in "([{":
+                    depth += 1
+                if ch in ")]}":
+                    depth -= 1
+                if ch == "," and depth == 0:
+                    out.append(cur.strip())
+                    cur = ""
+                else:
+                    cur += ch
+            if cur.strip():
+                out.append(cur.strip())
+            return out
+        start = group(text)
+        if start and text[start - 1] not in " \n":
+            notes.append(f"{goal}: a record of {ls} is due")
+            return body
+        vals = []
+        rest = text[start + 1: -1]
+        while len(vals) < len(ls) - 1:
+            ps = parts(rest)
+            if len(ps) < 2:
+                notes.append(f"{goal}: a record of {ls} is due")
+                return body
+            vals.append(ps[0])
+            if len(ps) == 2:
+                rest = ps[1]
+                if len(vals) < len(ls) - 1:
+                    if not (rest.startswith("(") and rest.endswith(")")):
+                        notes.append(f"{goal}: a record of {ls} is due")
+                        return body
+                    rest = rest[1:-1]
+            elif len(ps) == len(ls) - len(vals) + 1:
+                vals += ps[1:-1]
+                rest = ps[-1]
+            else:
+                rest = "(" + ", ".join(ps[1:]) + ")"
+                if len(vals) < len(ls) - 1:
+                    rest = rest[1:-1]
+        vals.append(rest)
+        return text[:start] + "record { " + "; ".join(f"{l} = {v}" for l, v in zip(ls, vals)) + " }"
+
     def lent_paths(body):
+        for stepname, ls in promised.items():
+            body = clause_path(body, stepname + ".ensures", ls)
         for stepname, names in lent.items():
             body = re.sub(r"\." + re.escape(stepname) + r"\.new\.(\d)(?!\w)", lambda m: f".{stepname}.new.{names[int(m.group(1))]}" if int(m.group(1)) < len(names) else m.group(0), body)
         return body
@@ -164,6 +249,9 @@ def turn(text, old, entry, crate, rel, source):
     signature = re.search(r"\bfn " + re.escape(rel.split("/")[-1]) + r"\b(?:<[^>]*>)?\(([^{]*?)\)(?: ->|\n| \{)", source, re.S)
     params = re.findall(r"(?:^|[(,])\s*(?:mut )?(\w+):", signature.group(1)) if signature else []
     temp_of = {k + 1: v for k, v in enumerate(params)}
+    # the check says the length of an array of structs of the array itself now
+    text = re.sub(r"sym \(length-map [\w.]+ _\) ∙ ", "", text)
+    text = re.sub(r"(?<=[\w)'])\.good(?![\w-])", ".well_formed", text).replace(".well-formed", ".well_formed")
     text = re.sub(r"(?<=[\w)'])\.t(\d+)(?!\w)", lambda m: "." + temp_of[int(m.group(1))] if int(m.group(1)) in temp_of else m.group(0), text)
     bs = blocks(text)
     header = ""
@@ -202,7 +290,7 @@ def turn(text, old, entry, crate, rel, source):
 
     def walked(block):
         """A lemma over a place keeps its walk up, with the steps' names of today."""
-        block = re.sub(r"\.pre(?![\w-])", ".requires", clause_path(block, "pre", req_labels))
+        block = re.sub(r"\.pre(?![\w-])", ".requires", clause_path(clause_path(block, "pre", req_labels), "requires", req_labels))
         block = re.sub(r"\.inv(?![\w-])", ".invariant", block)
         block = arm_paths(block)
         return re.sub(r"(?<=[\w)'])\.([a-zA-Z][\w-]*)", lambda m: "." + steps[bare(m.group(1))] if bare(m.group(1)) in steps else m.group(0), block)
@@ -212,6 +300,17 @@ def turn(text, old, entry, crate, rel, source):
     names_of = {}
     for b in rest:
         code = "\n".join(l for l in b.split("\n") if not l.startswith("--"))
+        mm = re.match(r"module _ \((\w+) : (?:tie|lts)\.([A-Z][\w-]*)[^)]*\) where", code)
+        if mm and place_of.get(canon(mm.group(2))):
+            for inner in re.findall(r"^  (?:abbrev )?([a-zA-Z][\w'-]*) :", code, re.M):
+                placed[inner] = place_of[canon(mm.group(2))]
+            b = walked(places_in(b))
+            for h, hb in helpers.items():
+                if re.search(r"(?<![\w.-])" + re.escape(h) + r"(?![\w-])", b) and hb:
+                    lemmas.append(walked(places_in(hb)))
+                    helpers[h] = ""
+            lemmas.append(b)
+            continue
         m = re.match(r"(?:abbrev )?(?:pub )?([^\s:]+) : (.*)", code, re.S)
         if not m:
             lemmas.append(b)
@@ -318,7 +417,7 @@ def turn(text, old, entry, crate, rel, source):
                 body = re.sub(r"(?<![\w.'-])" + re.escape(m.group(1)) + r"(?![\w'-])", var, body)
             if body == before:
                 break
-        body = clause_path(body, "pre", [l for l in req])
+        body = clause_path(clause_path(body, "pre", req), "requires", req)
         body = re.sub(r"(?<![\w.'-])" + var + r"\.pre(?![\w-])", var + ".requires", body)
         body = re.sub(r"\.pre\.(?=[a-z])", ".requires.", body)
         body = re.sub(r"\.inv(?![\w-])", ".invariant", body)
@@ -380,7 +479,7 @@ def turn(text, old, entry, crate, rel, source):
             notes.append(f"{name}: odd equation {eq[:80]}")
             continue
         var, body = m.group(1), m.group(3)
-        body = paths(body, var, new).replace("\0", var)
+        body = as_record(new, paths(body, var, new).replace("\0", var))
         if body.strip() == "search rules" and not unfolding:
             dropped += 1
             continue

@@ -13,8 +13,8 @@ use Rattle.recurrence.specs.NumberLaws.{quick_numbered}
 use Rattle.chain.specs.Calls.{default_limit}
 use Rattle.chain.specs.NumberLaws.{delay_numbered, margin_numbered, figures_numbered}
 use Rattle.chain.specs.declared.answer.Summary.{Summary}
-use Rattle.log.specs.Format.{log_judged}
-use Rattle.log.specs.NumberLaws.{OfLog, log_numbers}
+use Rattle.clocklog.specs.Format.{log_judged}
+use Rattle.clocklog.specs.NumberLaws.{OfLog, log_numbers}
 use Rattle.night.specs.declared.answer.Replayed.{Replayed}
 use Rattle.night.specs.declared.answer.Replay.TheVariants.{Of, No}
 use Rattle.night.specs.Calls.{chain_one, figures_after, AnswersFor}

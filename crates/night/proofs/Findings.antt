@@ -16,13 +16,13 @@ use Rattle.sheet.specs.declared.Sheet.{Sheet}
 use Rattle.sheet.specs.Sound.{Sound}
 use Rattle.sheet.specs.Tasks.{tasks_of, chain_count, lacks, chain_of, first_of, rest_of}
 use Rattle.sheet.specs.TaskLaws.{tasks_length, chain_count_lem, chain_most, chain_known}
-use Rattle.log.specs.FormatLaws.{judged_recorded}
+use Rattle.clocklog.specs.FormatLaws.{judged_recorded}
 use Rattle.night.specs.Calls.{chain_one}
 use Rattle.theory.specs.Model.Schedule.{period}
 use Rattle.theory.specs.Model.Responses.{Accepted}
 use Rattle.theory.specs.Model.Chain.{Chain}
-use Rattle.log.specs.Events.{Event}
-use Rattle.log.specs.Format.{count, record_at, records_from, records, log_judged}
+use Rattle.clocklog.specs.Events.{Event}
+use Rattle.clocklog.specs.Format.{count, record_at, records_from, records, log_judged}
 use Rattle.night.specs.declared.Found.{Found}
 use Rattle.night.specs.declared.answer.Break.{Break}
 use Rattle.night.specs.declared.answer.Break.TheVariants.{Nowhere, At}

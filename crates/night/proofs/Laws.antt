@@ -15,10 +15,10 @@ use Rattle.bits.specs.Lists.{length_list_of, get_d_list_of}
 use Rattle.theory.specs.declared.Task.{Task}
 use Rattle.theory.specs.Model.Schedule.{none, period, budget, rank, release, Slot, idle, busy}
 use Rattle.theory.specs.Model.Greatest.{outranking, greatest}
-use Rattle.log.specs.Events.{start, finish, time}
+use Rattle.clocklog.specs.Events.{start, finish, time}
 use Rattle.night.specs.Pass.{State, Step, broken, on, turn, put, is, share, goes_on, quiet, only, and_then, stretched, stretch, wait, finished, started, accept, step}
 use Rattle.night.specs.PassLaws.{put_same, put_other, share_cases, busy_task, and_true}
-use Rattle.log.specs.Format.{event}
+use Rattle.clocklog.specs.Format.{event}
 use Rattle.night.specs.declared.Still.{Still}
 use Rattle.night.specs.declared.Still.TheVariants.{Breaks, Last}
 use Rattle.night.specs.declared.Went.{Went}

@@ -13,7 +13,7 @@ use lib.Seq.{get_or-set_same, get_or-set_other}
 use borrow.Author.Tests.{lt-ltb, le-ltb, le-leb, lt-leb, eq-eqb, ne_eqb}
 use Rattle.night.specs.declared.answer.Longest.{Longest}
 use Rattle.night.specs.declared.answer.Longest.TheVariants.{Nothing, Delay}
-use Rattle.log.specs.Format.{event}
+use Rattle.clocklog.specs.Format.{event}
 use Rattle.night.specs.Follow.{longer, stands, ready, longest_after, follow}
 use Rattle.night.proofs.Laws.{event_start, event_finish}
 use Rattle.night.specs.Conditions.{held, Whole, Chained, readings_of}

@@ -11,8 +11,8 @@ use Rattle.theory.specs.Model.Schedule.{period}
 use Rattle.night.specs.declared.Found.{Found}
 use Rattle.night.specs.declared.answer.Longest.{Longest}
 use Rattle.night.specs.declared.answer.Longest.TheVariants.{Nothing}
-use Rattle.log.specs.Events.{Event, start, finish}
-use Rattle.log.specs.Format.{task, kind, time_at, event, record_at, records_from}
+use Rattle.clocklog.specs.Events.{Event, start, finish}
+use Rattle.clocklog.specs.Format.{task, kind, time_at, event, record_at, records_from}
 use Rattle.night.specs.Follow.{stands, Readings as ReadingsAt, unread, ready, follow, followed, paths}
 use Rattle.night.specs.Conditions.{held, readings_of, Chained, FoundIn}
 use Rattle.sheet.specs.Tasks.{first_of, rest_of}

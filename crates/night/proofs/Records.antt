@@ -10,8 +10,8 @@ use Rattle.arith.specs.Ranges.{sum}
 use Rattle.theory.specs.Model.Schedule.{idle}
 use Rattle.night.specs.declared.Went.{Went}
 use Rattle.night.specs.declared.Went.TheVariants.{Broken, On}
-use Rattle.log.specs.Events.{Event, start, finish}
-use Rattle.log.specs.Format.{task, kind, gap, time_before, time_at, event, records_from}
+use Rattle.clocklog.specs.Events.{Event, start, finish}
+use Rattle.clocklog.specs.Format.{task, kind, gap, time_before, time_at, event, records_from}
 use Rattle.night.specs.Pass.{State, fresh, put, Step, broken, on, step, further, taken}
 use Rattle.night.specs.PassLaws.{put_same, put_other}
 use Rattle.night.specs.StepLaws.{step_parts, start_parts, finish_parts, wait_ended}

@@ -1,7 +1,7 @@
 -- When records of starts and finishes agree with the tasks, and what is followed in them. Quotations are from document 02, P6.
 use Rattle.std.specs.Prelude.{◌≡◌, ◌⊎◌, ◌↔◌, List, [], ◌∷◌, ℕ, suc, ◌+◌, ◌*◌, ◌≤◌, ◌<◌, length, get_or, take}
 use Rattle.theory.specs.declared.Task.{Task}
-use Rattle.log.specs.Events.{Event, start, finish}
+use Rattle.clocklog.specs.Events.{Event, start, finish}
 use Rattle.theory.specs.Model.Schedule.{release, Demands, Within, Run, Schedule, Starts, Finishes}
 use Rattle.theory.specs.Model.Chain.{PathEnds}
 use Rattle.night.specs.declared.answer.Longest.{Longest}

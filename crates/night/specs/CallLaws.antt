@@ -11,7 +11,7 @@ use Rattle.schedule.specs.declared.answer.Size.{Size}
 use Rattle.schedule.specs.Calls.{sizes_of, table_after}
 use Rattle.chain.specs.declared.answer.Summary.{Summary}
 use Rattle.chain.specs.Calls.{figures_of}
-use Rattle.log.specs.Format.{log_judged}
+use Rattle.clocklog.specs.Format.{log_judged}
 use Rattle.night.specs.declared.answer.Replayed.{Replayed}
 use Rattle.night.specs.Calls.{chain_one, figures_after, Answered, AnswersFor}
 

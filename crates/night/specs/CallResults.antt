@@ -8,8 +8,8 @@ use Rattle.sheet.specs.Tasks.{tasks_of, chain_of, first_of, rest_of}
 use Rattle.chain.specs.declared.answer.Figure.{Figure}
 use Rattle.chain.specs.declared.answer.Summary.{Summary}
 use Rattle.chain.specs.CallLaws.{FiguresGiven, figures_given}
-use Rattle.log.specs.Events.{Event}
-use Rattle.log.specs.Format.{records}
+use Rattle.clocklog.specs.Events.{Event}
+use Rattle.clocklog.specs.Format.{records}
 use Rattle.night.specs.declared.answer.Longest.TheVariants.{Delay}
 use Rattle.night.specs.declared.answer.Break.TheVariants.{Nowhere}
 use Rattle.night.specs.declared.answer.Replayed.{Replayed}

@@ -8,7 +8,7 @@ use Rattle.sheet.specs.Tasks.{tasks_of, chain_of, first_of, rest_of}
 use Rattle.schedule.specs.Calls.{sizes_of}
 use Rattle.chain.specs.declared.answer.Summary.{Summary}
 use Rattle.chain.specs.Calls.{figures_of}
-use Rattle.log.specs.Format.{count, records, log_judged}
+use Rattle.clocklog.specs.Format.{count, records, log_judged}
 use Rattle.night.specs.declared.answer.Replayed.{Replayed}
 use Rattle.night.specs.declared.answer.Replay.{Replay}
 use Rattle.night.specs.declared.answer.Replay.TheVariants.{Of, No}

@@ -3,7 +3,7 @@ use Rattle.std.specs.Prelude.{◌≡◌, cond, List, ℕ, ◌+◌, ◌*◌, ◌�
 use Rattle.bits.specs.Bits.{list_of}
 use Rattle.theory.specs.declared.Task.{Task}
 use Rattle.theory.specs.Model.Schedule.{period, Slot, idle, busy}
-use Rattle.log.specs.Format.{most_time, task, time_at, records_from}
+use Rattle.clocklog.specs.Format.{most_time, task, time_at, records_from}
 use Rattle.night.specs.declared.Found.{Found}
 use Rattle.night.specs.declared.Still.{Still}
 use Rattle.night.specs.declared.Still.TheVariants.{Breaks, Last}

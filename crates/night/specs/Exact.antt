@@ -9,7 +9,7 @@ use Rattle.theory.specs.Model.Responses.{full}
 use Rattle.theory.specs.Model.Simulate.{simulate}
 use Rattle.theory.specs.Analysis.Existence.{simulate_schedule}
 use Rattle.theory.specs.Analysis.NeverLater.{full_within}
-use Rattle.log.specs.Events.{Event, start, finish, time}
+use Rattle.clocklog.specs.Events.{Event, start, finish, time}
 use Rattle.night.specs.Agreement.{instant, Happens, Begins, Agrees}
 use Rattle.night.specs.Pass.{State, fresh, from, put, turn, Step, broken, on, wait, finished, started, accept, step, further, taken}
 use Rattle.night.specs.PassLaws.{idle_busy, put_same, put_other, Room, Fits}

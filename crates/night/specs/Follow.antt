@@ -2,7 +2,7 @@
 use Rattle.std.specs.Prelude.{List, [], ◌∷◌, Bool, cond, ◌&&◌, ℕ, zero, suc, ◌-◌, ◌*◌, leb, ltb, eqb, length}
 use Rattle.night.specs.declared.answer.Longest.{Longest}
 use Rattle.night.specs.declared.answer.Longest.TheVariants.{Nothing, Delay}
-use Rattle.log.specs.Events.{Event, start, finish}
+use Rattle.clocklog.specs.Events.{Event, start, finish}
 use Rattle.night.specs.Agreement.{place}
 
 -- Another path, of a later job.

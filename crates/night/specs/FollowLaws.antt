@@ -19,7 +19,7 @@ use Rattle.theory.specs.Analysis.Finish.{finish_least, finish_released}
 use Rattle.theory.specs.Analysis.NeverLater.{job_finishes}
 use Rattle.theory.specs.Model.Chain.{Chain, HandOver, PathEnds}
 use Rattle.theory.specs.Analysis.Paths.{path_unique, path_exists}
-use Rattle.log.specs.Events.{Event, start, finish, time}
+use Rattle.clocklog.specs.Events.{Event, start, finish, time}
 use Rattle.night.specs.declared.answer.Longest.{Longest}
 use Rattle.night.specs.declared.answer.Longest.TheVariants.{Nothing, Delay}
 use Rattle.night.specs.Agreement.{Begins, Logged, place}

@@ -3,7 +3,7 @@ use Rattle.std.specs.Prelude.{List, [], ◌∷◌, Bool, true, false, cond, ◌&
 use Rattle.theory.specs.declared.Task.{Task}
 use Rattle.theory.specs.Model.Schedule.{release, budget, rank, Slot, idle, busy}
 use Rattle.theory.specs.Model.Greatest.{greatest}
-use Rattle.log.specs.Events.{Event, start, finish, time}
+use Rattle.clocklog.specs.Events.{Event, start, finish, time}
 
 -- What the records so far say of the ticks before `tick`: of each task how many jobs are finished, and how many ticks the next one has run
 -- (it is in progress if that is not 0). Where a task ran in the last of these ticks and may finish at `tick`, `last` has it.

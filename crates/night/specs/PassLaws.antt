@@ -12,7 +12,7 @@ use Rattle.theory.specs.Model.Schedule.{release, budget, rank, Proper, Demands, 
 use Rattle.theory.specs.Analysis.GreatestLaws.{IsGreatest, greatest_is}
 use Rattle.theory.specs.Analysis.Work.{done_grows, runs_other, done_step, done_busy, need_step, need_grows, due_covers, due_most}
 use Rattle.theory.specs.Analysis.Backlog.{done_most}
-use Rattle.log.specs.Events.{Event, start, finish}
+use Rattle.clocklog.specs.Events.{Event, start, finish}
 use Rattle.night.specs.Agreement.{instant, Happens}
 use Rattle.night.specs.Pass.{State, opening, from, put, is, turn, share, goes_on, quiet, on, stretched, stretch, wait}
 

@@ -8,7 +8,7 @@ use Rattle.theory.specs.Model.Responses.{response, Accepted}
 use Rattle.theory.specs.Model.Chain.{Chain, sampling}
 use Rattle.theory.specs.Analysis.Paths.{path_unique}
 use Rattle.theory.specs.Results.Demand3.{no_schedule_exceeds}
-use Rattle.log.specs.Events.{Event, start, finish}
+use Rattle.clocklog.specs.Events.{Event, start, finish}
 use Rattle.night.specs.declared.answer.Longest.{Longest}
 use Rattle.night.specs.declared.answer.Longest.TheVariants.{Nothing, Delay}
 use Rattle.night.specs.declared.answer.Break.{Break}

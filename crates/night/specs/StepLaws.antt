@@ -8,7 +8,7 @@ use Rattle.theory.specs.Model.Schedule.{budget, Proper, Demands, Within, need, S
 use Rattle.theory.specs.Model.Responses.{full}
 use Rattle.theory.specs.Analysis.NeverLater.{full_within}
 use Rattle.theory.specs.Analysis.Work.{runs_other, done_step, done_busy, need_step}
-use Rattle.log.specs.Events.{Event, start, finish, time}
+use Rattle.clocklog.specs.Events.{Event, start, finish, time}
 use Rattle.night.specs.Agreement.{instant, Happens, Next}
 use Rattle.night.specs.Pass.{State, from, put, is, turn, share, goes_on, quiet, Step, broken, on, only, and_then, stretched, stretch, wait, finished, started, accept, step}
 use Rattle.night.specs.PassLaws.{Chosen, put_same, put_other, busy_task, idle_busy, is_busy, busy_is, and_true, share_cases, turn_chosen, run_turn, within_job, Room, Fits, Settled, opening_least, opening_most, opening_busy, stretched_settled, settled_turn, none_finishes, finishes_now, unmet, fits_stretched, none_within, wait_reaches}

@@ -9,7 +9,7 @@ use Rattle.sheet.specs.declared.Sheet.{Sheet}
 use Rattle.sheet.specs.Tasks.{tasks_of, chain_of, first_of, rest_of}
 use Rattle.chain.specs.declared.answer.Summary.{Summary}
 use Rattle.chain.specs.CallLaws.{figures_given}
-use Rattle.log.specs.Format.{records}
+use Rattle.clocklog.specs.Format.{records}
 use Rattle.night.specs.declared.answer.Replayed.{Replayed}
 use Rattle.night.specs.declared.answer.Replay.{Replay}
 use Rattle.night.specs.declared.answer.Replay.TheVariants.{Of, No}

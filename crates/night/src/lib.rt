@@ -10,8 +10,8 @@ ghost use Rattle.theory.specs.Model.Responses.{Accepted};
 ghost use Rattle.answers.specs.Answers.{fine};
 ghost use Rattle.sheet.specs.Sound.{Sound};
 ghost use Rattle.sheet.specs.Tasks.{tasks_of, chain_at, first_of, rest_of};
-ghost use Rattle.log.specs.Events.{start, finish};
-ghost use Rattle.log.specs.Format.{most_time, count, event, log_judged};
+ghost use Rattle.clocklog.specs.Events.{start, finish};
+ghost use Rattle.clocklog.specs.Format.{most_time, count, event, log_judged};
 ghost use Rattle.night.specs.Calls.{chain_one, Follows};
 ghost use Rattle.night.specs.Promises.{ReplayPromise, ReplayRefusalPromise};
 ghost use Rattle.night.specs.Pass.{share, turn, goes_on, quiet, wait, accept, step};
@@ -386,7 +386,7 @@ fn run_log(plan: &[u32; 48], count: u8, chain: &[u8], log: &[u8], n: u16) -> Fou
     let mut at = 0u32;
     let mut r = 0u16;
     while r < n {
-        let e = log::entry(log, r);
+        let e = clocklog::entry(log, r);
         at += e.gap;
         let w = step_on(
             plan, count, &mut ended, &mut ran, tick, last, e.task, e.kind, at,
@@ -464,7 +464,7 @@ fn replayed(s: Sheet, log: &[u8], figure: Figure) -> Replayed
     let one = chain_one(s);
     let chain = one.entries;
     let m = one.length as usize;
-    let n = log::count(log);
+    let n = clocklog::count(log);
     let found = run_log(&plan, s.count, &chain[..m], log, n);
     let agreeing = found.agreeing;
     let paths = found.paths;
@@ -501,7 +501,7 @@ pub fn replay(s: Sheet, log: &[u8], table: &mut [u32]) -> Replay
     if table.len() < size.jobs as usize {
         return Replay::No(Refusal::Number(14));
     }
-    let v = log::judge(log, s.count);
+    let v = clocklog::judge(log, s.count);
     let Verdict::Fine = v else {
         return Replay::No(answers::refusal_of(v));
     };

@@ -106,7 +106,7 @@ pub found_start : (s : Sheet) → FoundTo s 0 0 0
 unfolding greatest
 found_start s = record { is_greatest = refl; has_rank = λ l. absurd (omega arith) }
 
-module _ {s : Sheet} (ok : Sound s) {values : List ℕ} (are : values ≡ responses_in s) where
+module _ (s : Sheet) (ok : Sound s) {values : List ℕ} (are : values ≡ responses_in s) where
   pub response_at : (i : ℕ) → i < s.count → get_or values i 0 ≡ quick_response (tasks_of s) i
   response_at i l =
       ap (λ xs. get_or xs i 0) are ∙ places_taken 16 0 (quick_response (tasks_of s)) s.count 0 i l (omega (arith, ok.count_most))

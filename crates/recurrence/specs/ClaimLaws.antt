@@ -135,10 +135,10 @@ module _ {periods budgets : List ℕ} {size : ℕ} (places : Places periods budg
   )
 
 -- By the places of those that outrank a task it is the task's own.
-pub claim_is : {s : Sheet} → Sound s → (i : ℕ) → i < s.count → {periods budgets : List ℕ} {size : ℕ} → Outranking (tasks_of s) i s.count periods budgets size
+pub claim_is : (s : Sheet) → Sound s → (i : ℕ) → i < s.count → {periods budgets : List ℕ} {size : ℕ} → Outranking (tasks_of s) i s.count periods budgets size
     → (x : ℕ) → claim_in periods budgets size (get_or s.tasks i none).budget x ≡ claim (tasks_of s) (budget (tasks_of s)) i x
 unfolding claim_in claim
-claim_is {s} ok i l o x =
+claim_is s ok i l o x =
     ap₂ ◌+◌ (sym (budget_at _ ok i l)) (o.sums (λ T C. C * quotient x T))
     ∙ ap (λ n. budget ts i + sum n (λ j. cond (outranks ts j i) (budget ts j * quotient x (period ts j)) 0)) (sym (tasks_length _ ok))
   where

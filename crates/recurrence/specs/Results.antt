@@ -147,7 +147,7 @@ pub responses_greatest : (s : Sheet) (number : ℕ) (r : QuickBound) (promise : 
 responses_greatest s number r promise answer i known =
     let sound = judged_sound s (quick_given s number answer).judged_fine in
     let x = theory.quick_response_of_all (sound_proper _ sound) i (omega (arith, tasks_length _ sound)) in
-    let is = response_at sound (promise.1 ∙ ap (λ a. responses_after a s) answer) i known in
+    let is = response_at _ sound (promise.1 ∙ ap (λ a. responses_after a s) answer) i known in
     ((λ k. omega (arith, is, x.0 k)), omega (arith, is, x.1))
 
 -- No schedule exceeds the bound. If it is answered, then for all demands of 1 to C, every run that is a schedule for them and every job of the

@@ -31,14 +31,14 @@ use Rattle.schedule.specs.Lateness.{job_late, late_job}
 use Rattle.schedule.specs.Conditions.{Period, brings, placed, coming, most_clear, rests_to, Additive, Level, Walk, Walked, RowFilled}
 
 -- What comes in is the load of the level.
-pub coming_load : {ts : List Task} {i : ℕ} {periods budgets : List ℕ} {size : ℕ} → Level ts i periods budgets size → coming (get_or ts i none) periods budgets size ≡ load ts (full ts) i
+pub coming_load : {ts : List Task} {i : ℕ} {periods budgets : List ℕ} {size : ℕ} → Level ts _ i periods budgets size → coming (get_or ts _ i none) periods budgets size ≡ load ts _ (full ts) i
 unfolding coming placed load released
 coming_load g = fun_ext (λ t. g.sums (brings t) (brings_adds t))
   where
     brings_adds : (t : ℕ) → Additive (brings t)
-    brings_adds t T a b = go (eqb (t % T) 0)
+    brings_adds t T a _ b = go (eqb (t % T) 0)
       where
-        go : (c : Bool) → cond c (a + b) 0 ≡ cond c a 0 + cond c b 0
+        go : (c : Bool) → cond c (a + b) 0 ≡ cond c a _ 0 + cond c b 0
         go true = refl
         go false = refl
 
@@ -46,7 +46,7 @@ part_most : (b : Bool) (x : ℕ) → cond b x 0 ≤ x
 part_most true x = le_refl x
 part_most false x = omega arith
 
-module _ {s : Sheet} (ok : Sound s) (i : ℕ) (known : i < s.count) where
+module _ (s : Sheet) (ok : Sound s) (i : ℕ) (known : i < s.count) where
   abbrev ts : List Task
   ts = tasks_of s
 

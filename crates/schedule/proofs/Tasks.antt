@@ -27,7 +27,7 @@ use Rattle.sheet.specs.TaskLaws.{sound_proper, tasks_length, task_at_lem, jobs_a
 use Rattle.schedule.specs.Calls.{most_ticks}
 use Rattle.schedule.specs.Conditions.{Period, Places, Additive, Level}
 
-module _ {s : Sheet} (ok : Sound s) where
+module _ (s : Sheet) (ok : Sound s) where
   -- The hyperperiod from the last task backwards
 
   pub multiple_start : 1 ≡ hyperperiod (drop s.count (tasks_of s))
@@ -78,7 +78,7 @@ pub record GatheredTo (s : Sheet) (i : ℕ) (periods budgets : List ℕ) (size n
   pub sums : (f : ℕ → ℕ → ℕ) → Additive f → sum size (λ p. f (get_or periods p 0) (get_or budgets p 0))
       ≡ sum n (λ j. cond (ltb (rank (tasks_of s) i) (rank (tasks_of s) j)) (f (period (tasks_of s) j) (budget (tasks_of s) j)) 0)
 
-module _ {s : Sheet} (ok : Sound s) (i : ℕ) (known : i < s.count) where
+module _ (s : Sheet) (ok : Sound s) (i : ℕ) (known : i < s.count) where
   abbrev ts : List Task
   ts = tasks_of s
 

@@ -11,8 +11,8 @@ use Rattle.schedule.specs.CallLaws.{sizes_no, sizes_given}
 use Rattle.schedule.specs.NumberLaws.{sizes_never_15}
 use Rattle.chain.specs.Calls.{figures_of, told_figures, figures_refusal}
 use Rattle.chain.specs.CallLaws.{figures_given}
-use Rattle.log.specs.Format.{log_judged}
-use Rattle.log.specs.NumberLaws.{log_never_15}
+use Rattle.clocklog.specs.Format.{log_judged}
+use Rattle.clocklog.specs.NumberLaws.{log_never_15}
 use Rattle.night.specs.Calls.{chain_one, figures_after}
 use Rattle.night.specs.CallLaws.{sizes_first, room_next, log_next, figures_last, replay_refused, replay_late, replay_given}
 use borrow.Author.Rules.{rules}

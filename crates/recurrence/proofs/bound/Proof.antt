@@ -91,7 +91,7 @@ bounds-of-requires : tie.Need-bounds-of-requires
 bounds-of-requires c κs =
     let p = c.before.before.before in
     let f = fields (named p) in
-    (sound f, (none_responding (sound f) p.before.before.each_response.ensures (lateness_fine _ (none_passes c.before)), has (named p)))
+    (sound f, (none_responding _ (sound f) p.before.before.each_response.ensures (lateness_fine _ (none_passes c.before)), has (named p)))
 
 returns-4 : tie.Need-returns-4
 returns-4 c =

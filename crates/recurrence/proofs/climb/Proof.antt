@@ -38,7 +38,7 @@ next_is : (c : tie.Else2 invariant-loop decreases-loop)
     → let a = c.before.before.before.before.args in c.before.claim.result ≡ claim (tasks_of a.t1) (budget (tasks_of a.t1)) a.i c.before.before.before.loop.candidate
 next_is c =
     let a = c.before.before.before.before in
-    c.before.claim.ensures ∙ claim_is a.requires.0 a.args.i a.requires.1.0 a.requires.1.1 c.before.before.before.loop.candidate
+    c.before.claim.ensures ∙ claim_is _ a.requires.0 a.args.i a.requires.1.0 a.requires.1.1 c.before.before.before.loop.candidate
 
 loop-less : tie.Need-loop-smaller invariant-loop decreases-loop
 loop-less c = omega (arith, c.before.before.if1.false, c.if2.false, next_is c, c.before.before.before.loop.invariant.rises)
@@ -60,7 +60,7 @@ returns-2 c =
     let a = c.before.before.before.before in
     let T = period_at _ a.requires.0 a.args.i a.requires.1.0 in
     climb_fixed c.before.before.before.loop.invariant (omega (arith, T, c.before.before.if1.false))
-    (sym (c.before.claim.ensures ∙ claim_is a.requires.0 a.args.i a.requires.1.0 a.requires.1.1 c.before.before.before.loop.candidate) ∙ c.if2.true)
+    (sym (c.before.claim.ensures ∙ claim_is _ a.requires.0 a.args.i a.requires.1.0 a.requires.1.1 c.before.before.before.loop.candidate) ∙ c.if2.true)
 
 pub climb_spec : {M : Type 1} → statement M
 climb_spec =

@@ -71,7 +71,7 @@ each-bounds-requires : tie.Need-each-bounds-requires
 each-bounds-requires c κs =
     let p = c.before.before.before in
     let f = fields p in
-    (sound f, none_responding (sound f) p.before.before.each_response.ensures (lateness_fine _ (none_passes c.before)))
+    (sound f, none_responding _ (sound f) p.before.before.each_response.ensures (lateness_fine _ (none_passes c.before)))
 
 returns-3 : tie.Need-returns-3
 returns-3 c =

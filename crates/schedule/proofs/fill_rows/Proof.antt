@@ -58,26 +58,26 @@ add-end : tie.Need-overflow-add-end invariant-loop decreases-loop
 add-end c =
     let a = start c.before in
     let l = c.before.loop in
-    omega (arith, l.invariant.1, jobs_next a.pre.0 a.args.h l.i a.pre.1.0 (omega arith), jobs_most a.pre.0 a.args.h (l.i + 1) a.pre.1.0 (omega arith), a.pre.0.count_most)
+    omega (arith, l.invariant.1, jobs_next _ a.pre.0 a.args.h l.i a.pre.1.0 (omega arith), jobs_most _ a.pre.0 a.args.h (l.i + 1) a.pre.1.0 (omega arith), a.pre.0.count_most)
 
 mul-fill-row : tie.Need-overflow-mul-fill-row invariant-loop decreases-loop
 mul-fill-row c =
     let a = start c.before in
     let l = c.before.loop in
-    omega (arith, l.invariant.1, jobs_most a.pre.0 a.args.h l.i a.pre.1.0 l.invariant.0, a.pre.0.count_most)
+    omega (arith, l.invariant.1, jobs_most _ a.pre.0 a.args.h l.i a.pre.1.0 l.invariant.0, a.pre.0.count_most)
 
 part-fill-row-end : tie.Need-slice-bounds-fill-row-end invariant-loop decreases-loop
 part-fill-row-end c =
     let a = start c.before in
     let l = c.before.loop in
-    omega (arith, a.pre.1.1, l.invariant.1, l.invariant.2.same_length, jobs_within a.pre.0 a.args.h l.i a.pre.1.0 (omega arith))
+    omega (arith, a.pre.1.1, l.invariant.1, l.invariant.2.same_length, jobs_within _ a.pre.0 a.args.h l.i a.pre.1.0 (omega arith))
 
 fill-row-requires : tie.Need-fill-row-requires invariant-loop decreases-loop
 fill-row-requires c κs =
     let a = start c.before.before in
     let l = c.before.before.loop in
     let known : l.i < a.args.t1.count = omega arith in
-    let room : l.from + a.args.h / (get_or a.args.t1.tasks l.i none).period ≤ length l.table = omega (arith, a.pre.1.1, l.invariant.1, l.invariant.2.same_length, jobs_within a.pre.0 a.args.h l.i a.pre.1.0 known) in
+    let room : l.from + a.args.h / (get_or a.args.t1.tasks l.i none).period ≤ length l.table = omega (arith, a.pre.1.1, l.invariant.1, l.invariant.2.same_length, jobs_within _ a.pre.0 a.args.h l.i a.pre.1.0 known) in
     (a.pre.0, (a.pre.1.0, (known, part_length l.from _ l.table room ∙ sym (jobs_at _ a.pre.0 a.pre.1.0.is_hyperperiod l.i known))))
 
 noted-requires : tie.Need-noted-requires invariant-loop decreases-loop
@@ -94,9 +94,9 @@ loop-again c =
     let l = (turn filled).loop in
     let known : l.i < a.args.t1.count = omega arith in
     let r = filled.fill_row in
-    let room : l.from + a.args.h / (get_or a.args.t1.tasks l.i none).period ≤ length l.table = omega (arith, a.pre.1.1, l.inv.1, l.inv.2.same_length, jobs_within a.pre.0 a.args.h l.i a.pre.1.0 known) in (
+    let room : l.from + a.args.h / (get_or a.args.t1.tasks l.i none).period ≤ length l.table = omega (arith, a.pre.1.1, l.inv.1, l.inv.2.same_length, jobs_within _ a.pre.0 a.args.h l.i a.pre.1.0 known) in (
       omega arith,
-      omega (arith, l.inv.1, jobs_next a.pre.0 a.args.h l.i a.pre.1.0 known),
+      omega (arith, l.inv.1, jobs_next _ a.pre.0 a.args.h l.i a.pre.1.0 known),
       rw (add-one l.i) (row_more (tasks_of a.args.t1) l.i l.from _ a.args.table.now l.table _ room (r.auto.1.1.1.0 ∙ part_length l.from _ l.table room) l.inv.2 r.ensures c.noted.ensures),
     )
 
@@ -106,7 +106,7 @@ returns c =
     let l = c.before.loop in
     let ts = tasks_of a.args.t1 in
     let all : l.i ≡ a.args.t1.count = omega arith in
-    let ends : l.from ≡ all_jobs ts = l.invariant.1 ∙ ap (λ n. sum n (jobs ts)) all ∙ sym (all_jobs_lem a.pre.0) in
+    let ends : l.from ≡ all_jobs ts = l.invariant.1 ∙ ap (λ n. sum n (jobs ts)) all ∙ sym (all_jobs_lem _ a.pre.0) in
     subst (λ e. Filled ts a.args.t1.count e a.args.table.now l.table l.found) ends (subst (λ n. Filled ts n l.from a.args.table.now l.table l.found) all l.invariant.2)
 
 pub fill_rows_spec : {M : Type 1} → statement M

@@ -24,7 +24,7 @@ abbrev known-task : tie.After-period-place invariant-loop decreases-loop → tie
 known-task c = c.before.before.before
 
 loop-holds : tie.Need-loop-init invariant-loop decreases-loop
-loop-holds c = gather_start c.requires.0 c.args.i c.requires.1.0 c.args.periods.now c.args.budgets.now c.requires.1.1 c.requires.1.2
+loop-holds c = gather_start _ c.requires.0 c.args.i c.requires.1.0 c.args.periods.now c.args.budgets.now c.requires.1.1 c.requires.1.2
 
 add-budgets : tie.Need-overflow-add-budgets invariant-loop decreases-loop
 add-budgets c =
@@ -57,7 +57,7 @@ returns c =
     let a = c.before.before in
     let l = c.before.loop in
     let all : l.j ≡ a.args.t1.count = omega (arith, l.invariant.so_far) in
-    gather_level_lem a.requires.0 a.args.i a.requires.1.0 (subst (GatheredTo a.args.t1 a.args.i l.periods l.budgets l.size) all l.invariant)
+    gather_level_lem _ a.requires.0 a.args.i a.requires.1.0 (subst (GatheredTo a.args.t1 a.args.i l.periods l.budgets l.size) all l.invariant)
 
 pub gather_level_spec : {M : Type 1} → statement M
 gather_level_spec =

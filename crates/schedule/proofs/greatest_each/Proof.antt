@@ -65,19 +65,19 @@ add-end : tie.Need-overflow-add-end invariant-loop decreases-loop
 add-end c =
     let a = start c.before in
     let l = c.before.loop in
-    omega (arith, l.invariant.2, jobs_next a.pre.0 a.args.h l.i a.pre.1.0 (omega (arith, l.invariant.1)), jobs_most a.pre.0 a.args.h (l.i + 1) a.pre.1.0 (omega (arith, l.invariant.1)), a.pre.0.count_most)
+    omega (arith, l.invariant.2, jobs_next _ a.pre.0 a.args.h l.i a.pre.1.0 (omega (arith, l.invariant.1)), jobs_most _ a.pre.0 a.args.h (l.i + 1) a.pre.1.0 (omega (arith, l.invariant.1)), a.pre.0.count_most)
 
 mul-greatest : tie.Need-overflow-mul-greatest invariant-loop decreases-loop
 mul-greatest c =
     let a = start c.before in
     let l = c.before.loop in
-    omega (arith, l.invariant.2, jobs_most a.pre.0 a.args.h l.i a.pre.1.0 (omega (arith, l.invariant.0, l.invariant.1)), a.pre.0.count_most)
+    omega (arith, l.invariant.2, jobs_most _ a.pre.0 a.args.h l.i a.pre.1.0 (omega (arith, l.invariant.0, l.invariant.1)), a.pre.0.count_most)
 
 part-greatest-end : tie.Need-slice-bounds-greatest-end invariant-loop decreases-loop
 part-greatest-end c =
     let a = start c.before in
     let l = c.before.loop in
-    omega (arith, a.pre.1.1.enough, l.invariant.2, jobs_within a.pre.0 a.args.h l.i a.pre.1.0 (omega (arith, l.invariant.1)))
+    omega (arith, a.pre.1.1.enough, l.invariant.2, jobs_within _ a.pre.0 a.args.h l.i a.pre.1.0 (omega (arith, l.invariant.1)))
 
 mul-each : tie.Need-overflow-mul-each invariant-loop decreases-loop
 mul-each c = omega (arith, (turn c).loop.invariant.1, (start (turn c)).pre.0.count_most)
@@ -93,8 +93,8 @@ loop-again c =
     let known : l.i < a.args.t1.count = omega (arith, l.inv.1) in (
       omega arith,
       l.inv.1,
-      omega (arith, l.inv.2, jobs_next a.pre.0 a.args.h l.i a.pre.1.0 known),
-      ap₂ (λ x y. set x l.i y) l.inv.3 (c.greatest.ensures ∙ row_greatest ts a.args.table.now a.pre.1.1 l.i l.from _ (omega (arith, tasks_length _ a.pre.0)) l.inv.2 (jobs_at _ a.pre.0 a.pre.1.0.is_hyperperiod l.i known) (omega (arith, a.pre.1.1.enough, l.inv.2, jobs_within a.pre.0 a.args.h l.i a.pre.1.0 known))) ∙ places_set 16 0 (task_response ts) l.i (omega (arith, a.pre.0.count_most)),
+      omega (arith, l.inv.2, jobs_next _ a.pre.0 a.args.h l.i a.pre.1.0 known),
+      ap₂ (λ x y. set x l.i y) l.inv.3 (c.greatest.ensures ∙ row_greatest ts a.args.table.now a.pre.1.1 l.i l.from _ (omega (arith, tasks_length _ a.pre.0)) l.inv.2 (jobs_at _ a.pre.0 a.pre.1.0.is_hyperperiod l.i known) (omega (arith, a.pre.1.1.enough, l.inv.2, jobs_within _ a.pre.0 a.args.h l.i a.pre.1.0 known))) ∙ places_set 16 0 (task_response ts) l.i (omega (arith, a.pre.0.count_most)),
     )
 
 returns : tie.Need-returns invariant-loop decreases-loop

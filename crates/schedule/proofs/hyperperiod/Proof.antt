@@ -25,7 +25,7 @@ abbrev turn : tie.After-lcm invariant-loop decreases-loop → tie.At-loop invari
 turn c = c.before.before
 
 loop-holds : tie.Need-loop-init invariant-loop decreases-loop
-loop-holds c = (omega arith, omega arith, multiple_start c.requires)
+loop-holds c = (omega arith, omega arith, multiple_start _ c.requires)
 
 returns : tie.Need-returns invariant-loop decreases-loop
 returns c =
@@ -33,7 +33,7 @@ returns c =
     let a = (turn next).before in
     let l = (turn next).loop in
     let over = told_over most_ticks _ next.lcm.ensures c.enum_told.given.1 in
-    sym (within_over most_ticks _ (omega (arith, over, multiple_step a.pre l.i l.multiple (omega arith) l.inv.0 l.inv.2, multiple_most a.pre (l.i - 1))))
+    sym (within_over most_ticks _ (omega (arith, over, multiple_step _ a.pre l.i l.multiple (omega arith) l.inv.0 l.inv.2, multiple_most _ a.pre (l.i - 1))))
 
 loop-again : tie.Need-loop-preserved invariant-loop decreases-loop
 loop-again c =
@@ -41,7 +41,7 @@ loop-again c =
     let a = (turn next).before in
     let l = (turn next).loop in
     let is = told_is most_ticks _ next.lcm.ensures c.before.m.given.1 in
-    (omega arith, omega (arith, is), is.0 ∙ multiple_step a.pre l.i l.multiple (omega arith) l.inv.0 l.inv.2)
+    (omega arith, omega (arith, is), is.0 ∙ multiple_step _ a.pre l.i l.multiple (omega arith) l.inv.0 l.inv.2)
 
 returns-2 : tie.Need-returns-2 invariant-loop decreases-loop
 returns-2 c =

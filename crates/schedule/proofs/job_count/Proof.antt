@@ -28,20 +28,20 @@ add-jobs : tie.Need-overflow-add-jobs invariant-loop decreases-loop
 add-jobs c =
     let a = c.before.before in
     let l = c.before.loop in
-    omega (arith, l.invariant.1, jobs_next a.requires.0 a.args.h l.i a.requires.1 (omega arith), jobs_most a.requires.0 a.args.h (l.i + 1) a.requires.1 (omega arith), a.requires.0.count_most)
+    omega (arith, l.invariant.1, jobs_next _ a.requires.0 a.args.h l.i a.requires.1 (omega arith), jobs_most _ a.requires.0 a.args.h (l.i + 1) a.requires.1 (omega arith), a.requires.0.count_most)
 
 loop-again : tie.Need-loop-preserved invariant-loop decreases-loop
 loop-again c =
     let a = c.before.before in
     let l = c.before.loop in
-    (omega arith, omega (arith, l.invariant.1, jobs_next a.requires.0 a.args.h l.i a.requires.1 (omega arith)))
+    (omega arith, omega (arith, l.invariant.1, jobs_next _ a.requires.0 a.args.h l.i a.requires.1 (omega arith)))
 
 returns : tie.Need-returns invariant-loop decreases-loop
 returns c =
     let a = c.before.before in
     let l = c.before.loop in
     let all : l.i ≡ a.args.t1.count = omega arith in
-    l.invariant.1 ∙ ap (λ n. sum n (jobsOf (tasks_of a.args.t1))) all ∙ sym (all_jobs_lem a.requires.0)
+    l.invariant.1 ∙ ap (λ n. sum n (jobsOf (tasks_of a.args.t1))) all ∙ sym (all_jobs_lem _ a.requires.0)
 
 pub job_count_spec : {M : Type 1} → statement M
 job_count_spec =

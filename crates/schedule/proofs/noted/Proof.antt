@@ -38,14 +38,14 @@ returns : tie.Need-returns
 returns c =
     let a = start (late c.before) in
     let ts = tasks_of a.args.t1 in
-    late_greater a.pre.0 a.args.i a.pre.1.0 (subst (FoundTo ts a.args.i) c.before.before.found.given.1 a.pre.1.1.0)
+    late_greater _ a.pre.0 a.args.i a.pre.1.0 (subst (FoundTo ts a.args.i) c.before.before.found.given.1 a.pre.1.1.0)
     (subst (Noted ts a.args.i) (late c.before).enum_told.given.1 a.pre.1.1.1) c.if1.true
 
 returns-2 : tie.Need-returns-2
 returns-2 c =
     let a = start (late c.before) in
     let ts = tasks_of a.args.t1 in
-    late_kept a.pre.0 a.args.i a.pre.1.0 (subst (FoundTo ts a.args.i) c.before.before.found.given.1 a.pre.1.1.0)
+    late_kept _ a.pre.0 a.args.i a.pre.1.0 (subst (FoundTo ts a.args.i) c.before.before.found.given.1 a.pre.1.1.0)
     (subst (Noted ts a.args.i) (late c.before).enum_told.given.1 a.pre.1.1.1) c.if1.false
 
 returns-3 : tie.Need-returns-3
@@ -53,7 +53,7 @@ returns-3 c =
     let row = c.before.before in
     let a = start row in
     let ts = tasks_of a.args.t1 in
-    late_first a.pre.0 a.args.i a.pre.1.0 (subst (FoundTo ts a.args.i) c.enum-told2.given.1 a.pre.1.1.0)
+    late_first _ a.pre.0 a.args.i a.pre.1.0 (subst (FoundTo ts a.args.i) c.enum-told2.given.1 a.pre.1.1.0)
     (subst (Noted ts a.args.i) row.enum_told.given.1 a.pre.1.1.1)
 
 returns-4 : tie.Need-returns-4
@@ -62,7 +62,7 @@ returns-4 c =
     let a = rested row in
     let ts = tasks_of a.args.t1 in
     let late = c.enum-told3.given.1 in
-    subst (FoundTo ts (suc a.args.i)) (sym late) (on_time_late a.pre.0 a.args.i a.pre.1.0 (subst (FoundTo ts a.args.i) late a.pre.1.1.0)
+    subst (FoundTo ts (suc a.args.i)) (sym late) (on_time_late _ a.pre.0 a.args.i a.pre.1.0 (subst (FoundTo ts a.args.i) late a.pre.1.1.0)
     (subst (Noted ts a.args.i) row.row.given.1 a.pre.1.1.1).0)
 
 returns-5 : tie.Need-returns-5
@@ -71,7 +71,7 @@ returns-5 c =
     let a = rested row in
     let ts = tasks_of a.args.t1 in
     let r = subst (Noted ts a.args.i) row.row.given.1 a.pre.1.1.1 in
-    on_time_lowest a.pre.0 a.args.i a.pre.1.0 (subst (FoundTo ts a.args.i) c.before.before.found2.given.1 a.pre.1.1.0) r.0 r.1 c.if2.true
+    on_time_lowest _ a.pre.0 a.args.i a.pre.1.0 (subst (FoundTo ts a.args.i) c.before.before.found2.given.1 a.pre.1.1.0) r.0 r.1 c.if2.true
 
 returns-6 : tie.Need-returns-6
 returns-6 c =
@@ -79,7 +79,7 @@ returns-6 c =
     let a = rested row in
     let ts = tasks_of a.args.t1 in
     let r = subst (Noted ts a.args.i) row.row.given.1 a.pre.1.1.1 in
-    on_time_kept a.pre.0 a.args.i a.pre.1.0 (subst (FoundTo ts a.args.i) c.before.before.found2.given.1 a.pre.1.1.0) r.0 c.if2.false
+    on_time_kept _ a.pre.0 a.args.i a.pre.1.0 (subst (FoundTo ts a.args.i) c.before.before.found2.given.1 a.pre.1.1.0) r.0 c.if2.false
 
 pub noted_spec : {M : Type 1} → statement M
 noted_spec =

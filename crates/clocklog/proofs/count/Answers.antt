@@ -1,0 +1,8 @@
+-- Twelve bits fit.
+use Rattle.std.proofs.Common.{arith, rules}
+use Rattle.bits.specs.Bits.{unpack}
+use Rattle.bits.specs.Laws.{number_lt}
+use Rattle.clocklog.proofs.count.Goals as goal
+
+pub overflow_cast-result : goal.overflow_cast-result
+overflow_cast-result c = omega (arith, c.number.ensures, number_lt (unpack c.args.log.now) 32 12)

@@ -1,0 +1,11 @@
+use Rattle.std.proofs.Common.{◌≡◌, suc, ◌+◌, ◌-◌, ◌≤◌, sym, refl, ap, ◌∙◌, arith, rules}
+use Rattle.bits.specs.Bits.{unpack, number}
+use Rattle.sheet.specs.Calls.{first_one}
+use Rattle.sheet.specs.TailLaws.{bit_one, bit_zero, first_one_here, first_one_past, first_one_end}
+use Rattle.clocklog.proofs.first_one.Given as goal
+
+abbrev pub invariant-loop-k : goal.invariant-loop-k
+invariant-loop-k l = (l.at ≤ l.k) × (l.k ≤ l.end) × (first_one (unpack l.log) l.at (l.end - l.at) ≡ first_one (unpack l.log) l.k (l.end - l.k))
+
+abbrev pub decreases-loop-k : goal.decreases-loop-k
+decreases-loop-k l = l.end - l.k

@@ -293,7 +293,7 @@ def turn(text, old, entry, crate, rel, source):
         block = re.sub(r"\.pre(?![\w-])", ".requires", clause_path(clause_path(block, "pre", req_labels), "requires", req_labels))
         block = re.sub(r"\.inv(?![\w-])", ".invariant", block)
         block = arm_paths(block)
-        return re.sub(r"(?<=[\w)'])\.([a-zA-Z][\w-]*)", lambda m: "." + steps[bare(m.group(1))] if bare(m.group(1)) in steps else m.group(0), block)
+        return re.sub(r"((?:^|[^\w.'-])[\w']+|\.before|\))\.([a-zA-Z][\w-]*)", lambda m: m.group(1) + "." + steps[bare(m.group(2))] if bare(m.group(2)) in steps else m.group(0), block)
 
     req_labels = requires_labels(source, rel.split("/")[-1])[0]
     order = iter(old_needs)

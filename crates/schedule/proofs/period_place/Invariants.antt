@@ -1,0 +1,11 @@
+use native.Mathlib.Omega.{arith}
+use native.Mathlib.Nat.{le_refl}
+use Prim.Native.Nat.{◌-◌, ◌≤◌}
+use borrow.Author.Rules.{rules}
+use Rattle.schedule.proofs.period_place.Given as goal
+
+abbrev pub invariant-loop-p : goal.invariant-loop-p
+invariant-loop-p l = l.p ≤ l.size
+
+abbrev pub decreases-loop-p : goal.decreases-loop-p
+decreases-loop-p l = l.size - l.p

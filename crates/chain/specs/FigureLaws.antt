@@ -7,11 +7,11 @@ use Rattle.theory.specs.declared.Task.{Task}
 use Rattle.arith.specs.Ranges.{sum, maximum, least}
 use Rattle.theory.specs.Model.Schedule.{period, release}
 use Rattle.theory.specs.Model.Responses.{response, jobs, task_response}
-use Rattle.theory.specs.Analysis.Hyperperiod.{jobs_whole, jobs_positive, jobs_released}
-use Rattle.theory.specs.Analysis.Repetition.{response_jobs, response_period}
+use Rattle.theory.proofs.Analysis.Hyperperiod.{jobs_whole, jobs_positive, jobs_released}
+use Rattle.theory.proofs.Analysis.Repetition.{response_jobs, response_period}
 use Rattle.theory.specs.Model.Chain.{Chain, walk_delay, outranked, delay, sampling, sampling_release, bound}
-use Rattle.theory.specs.Analysis.ChainLaws.{chain_head}
-use Rattle.theory.specs.Analysis.WalkLaws.{Along, chain_along, Alike, walk_delay_same, walk_bound_same}
+use Rattle.theory.proofs.Analysis.ChainLaws.{chain_head}
+use Rattle.theory.proofs.Analysis.WalkLaws.{Along, chain_along, Alike, walk_delay_same, walk_bound_same}
 use Rattle.sheet.specs.Tasks.{first_of, rest_of}
 use Rattle.schedule.specs.Calls.{most_ticks}
 use Rattle.chain.specs.declared.answer.Figure.{Figure}

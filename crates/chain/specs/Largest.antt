@@ -14,9 +14,9 @@ use Rattle.theory.specs.declared.Task.{Task}
 use Rattle.theory.specs.Model.Schedule.{period, release}
 use Rattle.theory.specs.Model.Chain.{Chain, Waits, Table, walk_next, walk_delay, walk_bound, outranked, delay, sampling, bound}
 use Rattle.theory.specs.Model.Responses.{response, jobs, task_response}
-use Rattle.theory.specs.Analysis.Repetition.{response_period}
-use Rattle.theory.specs.Analysis.Largest.{Along, along_first, along_chain, SmallTask, bound_most}
-use Rattle.theory.specs.Analysis.ChainLaws.{chain_head}
+use Rattle.theory.proofs.Analysis.Repetition.{response_period}
+use Rattle.theory.proofs.Analysis.Largest.{Along, along_first, along_chain, SmallTask, bound_most}
+use Rattle.theory.proofs.Analysis.ChainLaws.{chain_head}
 use Rattle.sheet.specs.Tasks.{first_of, rest_of}
 use Rattle.chain.specs.Conditions.{most_period, most_wait, most_figure, most_worst, TakenChain}
 use Rattle.chain.specs.Calls.{figure_of, quick_bound}

@@ -6,8 +6,8 @@ use Rattle.theory.specs.declared.Task.{Task}
 use Rattle.theory.specs.Model.Schedule.{Proper, rank}
 use Rattle.theory.specs.Model.Responses.{task_response}
 use Rattle.theory.specs.Model.Recurrence.{quick_response, Passing}
-use Rattle.theory.specs.Analysis.QuickLaws.{quick_response_task, passing_late_task, late_task_passing, accepted_within}
-use Rattle.theory.specs.Results.QuickBound.{quick_bound_same}
+use Rattle.theory.proofs.Analysis.QuickLaws.{quick_response_task, passing_late_task, late_task_passing, accepted_within}
+use Rattle.theory.proofs.Results.QuickBound.{quick_bound_same}
 use Rattle.answers.specs.Answers.{given, refused, fine}
 use Rattle.sheet.specs.declared.Sheet.{Sheet}
 use Rattle.sheet.specs.PlaceLaws.{places_same}

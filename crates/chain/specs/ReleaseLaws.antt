@@ -4,7 +4,7 @@ use Rattle.std.proofs.Common.{div-add-mod', div-mul-le_self, arith}
 use Rattle.theory.specs.declared.Task.{Task}
 use Rattle.theory.specs.Model.Schedule.{period, release, Proper}
 use Rattle.theory.specs.Model.Responses.{hyperperiod, jobs}
-use Rattle.theory.specs.Analysis.Hyperperiod.{released_jobs}
+use Rattle.theory.proofs.Analysis.Hyperperiod.{released_jobs}
 
 -- A multiple of the period is the release of a job,
 pub job_release : (ts : List Task) (i r : ℕ) → r % period ts i ≤ 0 → release ts i (r / period ts i) ≡ r

@@ -5,16 +5,16 @@ use Rattle.std.proofs.Common.{sym, ap, ◌∙◌, subst, le_refl, div-add-mod', 
 use Rattle.theory.specs.declared.Task.{Task}
 use Rattle.theory.specs.Model.Schedule.{period, release, Demands, Within, Run, Schedule}
 use Rattle.theory.specs.Model.Responses.{full, response, hyperperiod}
-use Rattle.theory.specs.Analysis.Repetition.{response_again}
+use Rattle.theory.proofs.Analysis.Repetition.{response_again}
 use Rattle.theory.specs.Model.Chain.{delay, sampling, bound, PathEnds, Rising}
 use Rattle.theory.specs.Model.Readings.{Arrives}
-use Rattle.theory.specs.Analysis.ChainLaws.{delay_turns}
-use Rattle.theory.specs.Analysis.Paths.{path_within, path_exists, path_exact}
+use Rattle.theory.proofs.Analysis.ChainLaws.{delay_turns}
+use Rattle.theory.proofs.Analysis.Paths.{path_within, path_exists, path_exact}
 use Rattle.theory.specs.Model.Flag.{FlagWithin}
-use Rattle.theory.specs.Analysis.FlagLaws.{flag_later}
-use Rattle.theory.specs.Results.Flags.{no_flag_exceeds}
-use Rattle.theory.specs.Results.Demand3 as demand
-use Rattle.theory.specs.Results.Demand3.{GreatestDelay}
+use Rattle.theory.proofs.Analysis.FlagLaws.{flag_later}
+use Rattle.theory.proofs.Results.Flags.{no_flag_exceeds}
+use Rattle.theory.proofs.Results.Demand3 as demand
+use Rattle.theory.proofs.Results.Demand3.{GreatestDelay}
 use Rattle.sheet.specs.declared.Sheet.{Sheet}
 use Rattle.answers.specs.Answers.{given, fine, after}
 use Rattle.answers.specs.AnswerLaws.{when_fine}

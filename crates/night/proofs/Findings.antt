@@ -8,7 +8,7 @@ use lib.Dec.{ltb}
 use lib.ListN.{length, take}
 use borrow.Author.Tests.{ltb-true, ltb-false, le-ltb}
 use Rattle.theory.specs.declared.Task.{Task}
-use Rattle.theory.specs.Analysis.ChainLaws.{chain_head}
+use Rattle.theory.proofs.Analysis.ChainLaws.{chain_head}
 use Rattle.bits.specs.Bits.{unpack}
 use Rattle.bits.specs.Laws.{number_lt}
 use Rattle.answers.specs.Answers.{fine}

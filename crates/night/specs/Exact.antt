@@ -7,8 +7,8 @@ use Rattle.theory.specs.Model.Schedule.{budget, Proper, Demands, Within, need, b
 use Rattle.arith.specs.Ranges.{sum}
 use Rattle.theory.specs.Model.Responses.{full}
 use Rattle.theory.specs.Model.Simulate.{simulate}
-use Rattle.theory.specs.Analysis.Existence.{simulate_schedule}
-use Rattle.theory.specs.Analysis.NeverLater.{full_within}
+use Rattle.theory.proofs.Analysis.Existence.{simulate_schedule}
+use Rattle.theory.proofs.Analysis.NeverLater.{full_within}
 use Rattle.clocklog.specs.Events.{Event, start, finish, time}
 use Rattle.night.specs.Agreement.{instant, Happens, Begins, Agrees}
 use Rattle.night.specs.Pass.{State, fresh, from, put, turn, Step, broken, on, wait, finished, started, accept, step, further, taken}

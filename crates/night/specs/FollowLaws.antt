@@ -14,11 +14,11 @@ use borrow.Author.Tests.{ltb-true, ltb-false, eq-eqb, ne_eqb, lt-ltb, le-ltb, le
 use Rattle.theory.specs.declared.Task.{Task}
 use Rattle.theory.specs.Model.Schedule.{period, release, Demands, Within, need, Run, Schedule, Starts, Finishes}
 use Rattle.theory.specs.Model.Responses.{Accepted}
-use Rattle.theory.specs.Analysis.Work.{done_busy, done_grows, need_step, need_grows}
-use Rattle.theory.specs.Analysis.Finish.{finish_least, finish_released}
-use Rattle.theory.specs.Analysis.NeverLater.{job_finishes}
+use Rattle.theory.proofs.Analysis.Work.{done_busy, done_grows, need_step, need_grows}
+use Rattle.theory.proofs.Analysis.Finish.{finish_least, finish_released}
+use Rattle.theory.proofs.Analysis.NeverLater.{job_finishes}
 use Rattle.theory.specs.Model.Chain.{Chain, HandOver, PathEnds}
-use Rattle.theory.specs.Analysis.Paths.{path_unique, path_exists}
+use Rattle.theory.proofs.Analysis.Paths.{path_unique, path_exists}
 use Rattle.clocklog.specs.Events.{Event, start, finish, time}
 use Rattle.night.specs.declared.answer.Longest.{Longest}
 use Rattle.night.specs.declared.answer.Longest.TheVariants.{Nothing, Delay}

@@ -6,8 +6,8 @@ use Rattle.theory.specs.declared.Task.{Task}
 use Rattle.theory.specs.Model.Schedule.{period, release, Proper, Demands, Run}
 use Rattle.theory.specs.Model.Responses.{response, Accepted}
 use Rattle.theory.specs.Model.Chain.{Chain, sampling}
-use Rattle.theory.specs.Analysis.Paths.{path_unique}
-use Rattle.theory.specs.Results.Demand3.{no_schedule_exceeds}
+use Rattle.theory.proofs.Analysis.Paths.{path_unique}
+use Rattle.theory.proofs.Results.Demand3.{no_schedule_exceeds}
 use Rattle.clocklog.specs.Events.{Event, start, finish}
 use Rattle.night.specs.declared.answer.Longest.{Longest}
 use Rattle.night.specs.declared.answer.Longest.TheVariants.{Nothing, Delay}

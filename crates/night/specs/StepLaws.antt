@@ -6,8 +6,8 @@ use Rattle.std.proofs.lemmas.Bool.{eqb-false}
 use Rattle.theory.specs.declared.Task.{Task}
 use Rattle.theory.specs.Model.Schedule.{budget, Proper, Demands, Within, need, Slot, idle, busy, Run, runs, done, Schedule, Starts, Finishes}
 use Rattle.theory.specs.Model.Responses.{full}
-use Rattle.theory.specs.Analysis.NeverLater.{full_within}
-use Rattle.theory.specs.Analysis.Work.{runs_other, done_step, done_busy, need_step}
+use Rattle.theory.proofs.Analysis.NeverLater.{full_within}
+use Rattle.theory.proofs.Analysis.Work.{runs_other, done_step, done_busy, need_step}
 use Rattle.clocklog.specs.Events.{Event, start, finish, time}
 use Rattle.night.specs.Agreement.{instant, Happens, Next}
 use Rattle.night.specs.Pass.{State, from, put, is, turn, share, goes_on, quiet, Step, broken, on, only, and_then, stretched, stretch, wait, finished, started, accept, step}

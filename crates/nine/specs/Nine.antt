@@ -8,7 +8,7 @@ use Rattle.theory.specs.Model.Schedule.{none}
 use Rattle.arith.specs.Ranges.{sum, maximum, least}
 use Rattle.theory.specs.Model.Responses.{hyperperiod, all_jobs}
 use Rattle.theory.specs.Model.Greatest.{greatest}
-use Rattle.theory.specs.Analysis.Clearing.{clearing}
+use Rattle.theory.proofs.Analysis.Clearing.{clearing}
 use Rattle.theory.specs.Model.Chain.{sampling, sampling_release, bound}
 use Rattle.sheet.specs.declared.Sheet.{Sheet}
 use Rattle.answers.specs.Answers.{Answer, given, refused}

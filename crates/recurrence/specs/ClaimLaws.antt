@@ -16,7 +16,7 @@ use Rattle.theory.specs.declared.Task.{Task}
 use Rattle.theory.specs.Model.Schedule.{none, period, budget}
 use Rattle.theory.specs.Model.Chain.{outranks}
 use Rattle.theory.specs.Model.Recurrence.{quotient, claim}
-use Rattle.theory.specs.Analysis.RecurrenceLaws.{share_most}
+use Rattle.theory.proofs.Analysis.RecurrenceLaws.{share_most}
 use Rattle.sheet.specs.declared.Sheet.{Sheet}
 use Rattle.sheet.specs.Sound.{Sound}
 use Rattle.sheet.specs.Tasks.{tasks_of}

@@ -10,8 +10,8 @@ use Rattle.theory.specs.Model.Responses.{response, Accepted}
 use Rattle.theory.specs.Model.Chain.{PathEnds}
 use Rattle.theory.specs.Model.Flag.{FlagWithin}
 use Rattle.theory.specs.Model.Recurrence.{quick_response, Passing, EverLate}
-use Rattle.theory.specs.Analysis.QuickLaws.{within_accepted}
-use Rattle.theory.specs.Results.QuickBound as theory
+use Rattle.theory.proofs.Analysis.QuickLaws.{within_accepted}
+use Rattle.theory.proofs.Results.QuickBound as theory
 use Rattle.answers.specs.Answers.{Answer, given, refused, Judgement, fine, also}
 use Rattle.answers.specs.AnswerLaws.{refused_given, when_fine, also_given}
 use Rattle.answers.specs.NumberLaws.{when_only}

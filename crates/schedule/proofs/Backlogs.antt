@@ -14,12 +14,12 @@ use Rattle.theory.specs.declared.Task.{Task}
 use Rattle.arith.specs.RangeLaws.{sum_le, sum_const}
 use Rattle.theory.specs.Model.Schedule.{none, period, budget, rank, need, released, due}
 use Rattle.theory.specs.Model.Responses.{full, response, jobs}
-use Rattle.theory.specs.Analysis.Work.{due_step, due_jobs}
-use Rattle.theory.specs.Analysis.Level.{level, level_add, level_le, level_eq, level_own}
-use Rattle.theory.specs.Analysis.Backlog.{load, drain, backlog_unfinished}
-use Rattle.theory.specs.Analysis.Existence.{full_schedule}
-use Rattle.theory.specs.Analysis.ResponseLaws.{zero_on_time, first_zero_response, no_zero_late}
-use Rattle.theory.specs.Analysis.Hyperperiod.{jobs_whole}
+use Rattle.theory.proofs.Analysis.Work.{due_step, due_jobs}
+use Rattle.theory.proofs.Analysis.Level.{level, level_add, level_le, level_eq, level_own}
+use Rattle.theory.proofs.Analysis.Backlog.{load, drain, backlog_unfinished}
+use Rattle.theory.proofs.Analysis.Existence.{full_schedule}
+use Rattle.theory.proofs.Analysis.ResponseLaws.{zero_on_time, first_zero_response, no_zero_late}
+use Rattle.theory.proofs.Analysis.Hyperperiod.{jobs_whole}
 use Rattle.sheet.specs.declared.Sheet.{Sheet}
 use Rattle.sheet.specs.Sound.{Sound}
 use Rattle.sheet.specs.Tasks.{tasks_of}

@@ -18,8 +18,8 @@ use Rattle.arith.specs.Ranges.{sum}
 use Rattle.arith.specs.RangeLaws.{sum_add, sum_eq, sum_le, sum_const, sum_point, sum_grows}
 use Rattle.theory.specs.Model.Schedule.{none, period, budget, rank}
 use Rattle.theory.specs.Model.Responses.{hyperperiod, jobs, all_jobs}
-use Rattle.theory.specs.Analysis.Hyperperiod.{hyperperiod_multiple, hyperperiod_least, hyperperiod_positive}
-use Rattle.theory.specs.Analysis.Level.{level_own}
+use Rattle.theory.proofs.Analysis.Hyperperiod.{hyperperiod_multiple, hyperperiod_least, hyperperiod_positive}
+use Rattle.theory.proofs.Analysis.Level.{level_own}
 use Rattle.sheet.specs.declared.Sheet.{Sheet}
 use Rattle.sheet.specs.Sound.{Sound}
 use Rattle.sheet.specs.Tasks.{tasks_of}

@@ -7,7 +7,7 @@ use Rattle.arith.specs.Ranges.{sum}
 use Rattle.theory.specs.declared.Task.{Task}
 use Rattle.theory.specs.Model.Schedule.{Slot, idle, busy, period, budget, done}
 use Rattle.theory.specs.Model.Responses.{hyperperiod, all_jobs, idle_ticks, Accepted, full_budget, jobs}
-use Rattle.theory.specs.Analysis.Idle.{runs_exactly, idle_adds_up}
+use Rattle.theory.proofs.Analysis.Idle.{runs_exactly, idle_adds_up}
 use Rattle.answers.specs.Answers.{Answer, given, refused, fine, when, after, also}
 use Rattle.answers.specs.AnswerLaws.{when_fine, also_given}
 use Rattle.sheet.specs.declared.Sheet.{Sheet}

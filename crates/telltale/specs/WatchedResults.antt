@@ -7,7 +7,7 @@ use Rattle.theory.specs.declared.Task.{Task}
 use Rattle.theory.specs.Model.Schedule.{release, Demands, Within, Run, Schedule}
 use Rattle.theory.specs.Model.Responses.{response, Accepted}
 use Rattle.theory.specs.Model.Chain.{Chain, sampling}
-use Rattle.theory.specs.Results.Demand3.{no_schedule_exceeds}
+use Rattle.theory.proofs.Results.Demand3.{no_schedule_exceeds}
 use Rattle.telltale.specs.Calls.{fresh}
 use Rattle.telltale.specs.Runs.{Call, begin, stamp, run, times, greatest}
 use Rattle.telltale.specs.CallLaws.{elapsed_apart}

@@ -1,6 +1,2 @@
 -- What a reader must believe: what a schedule is, what is read from the full-budget one, a chain's figures and paths, and the readings carried.
 pub mod Model
--- The laws of the schedule and of the chain.
-pub mod Analysis
--- The results, and document 01's sheets.
-pub mod Results

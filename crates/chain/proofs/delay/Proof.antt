@@ -10,7 +10,7 @@ use Rattle.answers.specs.Answers.{given, fine, after, refusal}
 use Rattle.answers.specs.AnswerLaws.{refusal_is}
 use Rattle.sheet.specs.Sound.{Sound}
 use Rattle.sheet.specs.SoundLaws.{judged_sound}
-use Rattle.theory.specs.Analysis.ChainLaws.{chain_head}
+use Rattle.theory.proofs.Analysis.ChainLaws.{chain_head}
 use Rattle.sheet.specs.TaskLaws.{chain_known}
 use Rattle.sheet.specs.Tasks.{tasks_of, lacks, chain_of, first_of, rest_of}
 use Rattle.schedule.specs.Calls.{sizes_of, responses_of, told_size, told_totals}

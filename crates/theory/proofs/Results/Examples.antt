@@ -5,10 +5,10 @@ use Rattle.std.proofs.Math.Bool.{decide}
 use Rattle.theory.specs.declared.Task.{Task}
 use Rattle.arith.specs.Ranges.{sum, maximum}
 use Rattle.theory.specs.Model.Responses.{LateTask, response, task_response, hyperperiod, jobs, all_jobs, idle_ticks, Accepted}
-use Rattle.theory.specs.Analysis.Idle.{idle_adds_up}
-use Rattle.theory.specs.Analysis.Evaluation.{delay_clearing, chain?, sampling_clearing, sampling_release_clearing, bound_clearing, decided, proper?, clears?, clears_accepted, Row, row?, cleared_row}
+use Rattle.theory.proofs.Analysis.Idle.{idle_adds_up}
+use Rattle.theory.proofs.Analysis.Evaluation.{delay_clearing, chain?, sampling_clearing, sampling_release_clearing, bound_clearing, decided, proper?, clears?, clears_accepted, Row, row?, cleared_row}
 use Rattle.theory.specs.Model.Chain.{delay, sampling, sampling_release, bound}
-use Rattle.theory.specs.Analysis.Clearing.{clearing, clearing_late}
+use Rattle.theory.proofs.Analysis.Clearing.{clearing, clearing_late}
 
 -- A task (T, C, rank).
 abbrev pub task : ℕ → ℕ → ℕ → Task

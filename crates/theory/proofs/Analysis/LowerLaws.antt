@@ -11,10 +11,10 @@ use Rattle.arith.specs.RangeLaws.{sum_eq, sum_longer}
 use Rattle.theory.specs.declared.Task.{Task}
 use Rattle.theory.specs.Model.Schedule.{none, period, rank, Proper, released}
 use Rattle.theory.specs.Model.Responses.{full, response, task_response}
-use Rattle.theory.specs.Analysis.Level.{level, cond_zero}
-use Rattle.theory.specs.Analysis.Backlog.{load, drain}
-use Rattle.theory.specs.Analysis.Clearing.{until, clearing, response_clearing}
-use Rattle.theory.specs.Analysis.QuickLaws.{quick_response_first, quick_response_task}
+use Rattle.theory.proofs.Analysis.Level.{level, cond_zero}
+use Rattle.theory.proofs.Analysis.Backlog.{load, drain}
+use Rattle.theory.proofs.Analysis.Clearing.{until, clearing, response_clearing}
+use Rattle.theory.proofs.Analysis.QuickLaws.{quick_response_first, quick_response_task}
 
 -- Task i of the list has at least this rank.
 pub record From (rank₀ : ℕ) (ts : List Task) (i : ℕ) : Type 0 where

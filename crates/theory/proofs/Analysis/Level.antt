@@ -9,7 +9,7 @@ use Rattle.theory.specs.declared.Task.{Task}
 use Rattle.arith.specs.Ranges.{sum}
 use Rattle.arith.specs.RangeLaws.{sum_add, sum_le, sum_eq, sum_zero, sum_point, sum_tight}
 use Rattle.theory.specs.Model.Schedule.{rank, Proper, busy, runs}
-use Rattle.theory.specs.Analysis.Work.{runs_self, runs_other}
+use Rattle.theory.proofs.Analysis.Work.{runs_self, runs_other}
 
 -- Task j is of the level of task i where its rank is at least i's.
 abbrev in_level : List Task → ℕ → ℕ → Bool

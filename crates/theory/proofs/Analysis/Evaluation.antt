@@ -9,10 +9,10 @@ use Rattle.arith.specs.Ranges.{maximum}
 use Rattle.arith.specs.RangeLaws.{below_suc}
 use Rattle.theory.specs.Model.Schedule.{period, budget, rank, Proper}
 use Rattle.theory.specs.Model.Responses.{response, hyperperiod, jobs, task_response, Accepted}
-use Rattle.theory.specs.Analysis.Hyperperiod.{released_jobs}
-use Rattle.theory.specs.Analysis.Clearing.{clearing, response_clearing, late_clearing}
+use Rattle.theory.proofs.Analysis.Hyperperiod.{released_jobs}
+use Rattle.theory.proofs.Analysis.Clearing.{clearing, response_clearing, late_clearing}
 use Rattle.theory.specs.Model.Chain.{Chain, outranked, delay, sampling, sampling_release, bound}
-use Rattle.theory.specs.Analysis.WalkLaws.{Along, chain_along, Alike, alike_self, walk_delay_same, walk_worst_same, walk_worst_release_same, walk_bound_same}
+use Rattle.theory.proofs.Analysis.WalkLaws.{Along, chain_along, Alike, alike_self, walk_delay_same, walk_worst_same, walk_worst_release_same, walk_bound_same}
 
 -- What is decided to hold holds.
 pub decided : {P : Type 0} (d : Dec P) → T (decide d) → P

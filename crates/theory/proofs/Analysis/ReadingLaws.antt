@@ -10,9 +10,9 @@ use Rattle.theory.specs.declared.Task.{Task}
 use Rattle.theory.specs.Model.Schedule.{Demands, Within, need, Run, done, Starts, Finishes}
 use Rattle.theory.specs.Model.Chain.{Chain, PathEnds}
 use Rattle.theory.specs.Model.Readings.{Reads, Carries}
-use Rattle.theory.specs.Analysis.Work.{done_grows, need_grows}
-use Rattle.theory.specs.Analysis.Finish.{done_starts, done_finishes, start_later, finish_later, finish_order}
-use Rattle.theory.specs.Analysis.ChainLaws.{chain_head}
+use Rattle.theory.proofs.Analysis.Work.{done_grows, need_grows}
+use Rattle.theory.proofs.Analysis.Finish.{done_starts, done_finishes, start_later, finish_later, finish_order}
+use Rattle.theory.proofs.Analysis.ChainLaws.{chain_head}
 
 -- The newest write
 

@@ -8,12 +8,12 @@ use Rattle.theory.specs.Model.Responses.{response, task_response, Accepted}
 use Rattle.theory.specs.Model.Chain.{Chain, sampling, PathEnds}
 use Rattle.theory.specs.Model.Readings.{Arrives}
 use Rattle.theory.specs.Model.Flag.{Takes, from_flag, flag_worst, flag_bound, FlagWithin}
-use Rattle.theory.specs.Analysis.Finish.{start_later}
-use Rattle.theory.specs.Analysis.NeverLater.{job_starts}
-use Rattle.theory.specs.Analysis.ChainLaws.{chain_head}
-use Rattle.theory.specs.Analysis.FlagLaws.{flag_later, wait_most, flag_taken}
-use Rattle.theory.specs.Results.Demand3.{no_schedule_exceeds, path_arrives, sampling_within_bound}
-use Rattle.theory.specs.Results.Examples.{trio, radio, trio_chain, radio_chain}
+use Rattle.theory.proofs.Analysis.Finish.{start_later}
+use Rattle.theory.proofs.Analysis.NeverLater.{job_starts}
+use Rattle.theory.proofs.Analysis.ChainLaws.{chain_head}
+use Rattle.theory.proofs.Analysis.FlagLaws.{flag_later, wait_most, flag_taken}
+use Rattle.theory.proofs.Results.Demand3.{no_schedule_exceeds, path_arrives, sampling_within_bound}
+use Rattle.theory.proofs.Results.Examples.{trio, radio, trio_chain, radio_chain}
 
 -- 1. No flag exceeds the worst. For every accepted sheet, all demands of 1 to C, every run that is a schedule for them and every tick e: a job
 -- takes the flag raised then, the path from it ends no later than T − 1 and the sampling figure after e, and the reading that arrives there

@@ -8,14 +8,14 @@ use Rattle.arith.specs.WholeLaws.{up_above, up_near}
 use Rattle.theory.specs.declared.Task.{Task}
 use Rattle.theory.specs.Model.Schedule.{period, release, rank, Demands, Within, Run, Pending, Schedule, Starts, Finishes}
 use Rattle.theory.specs.Model.Responses.{full, response, Accepted}
-use Rattle.theory.specs.Analysis.Work.{done_grows, need_step, due_covers}
-use Rattle.theory.specs.Analysis.Finish.{finish_before, finish_unique, start_released}
-use Rattle.theory.specs.Analysis.ResponseLaws.{response_finishes}
-use Rattle.theory.specs.Analysis.Repetition.{never_late, response_period}
-use Rattle.theory.specs.Analysis.NeverLater.{full_within, job_starts, job_finishes, finish_response}
+use Rattle.theory.proofs.Analysis.Work.{done_grows, need_step, due_covers}
+use Rattle.theory.proofs.Analysis.Finish.{finish_before, finish_unique, start_released}
+use Rattle.theory.proofs.Analysis.ResponseLaws.{response_finishes}
+use Rattle.theory.proofs.Analysis.Repetition.{never_late, response_period}
+use Rattle.theory.proofs.Analysis.NeverLater.{full_within, job_starts, job_finishes, finish_response}
 use Rattle.theory.specs.Model.Chain.{Chain, outranked, next_release, delay, HandOver, PathEnds, Rising}
-use Rattle.theory.specs.Analysis.ChainLaws.{chain_head, next_outranking, next_job_lem, delay_step}
-use Rattle.theory.specs.Analysis.WalkPaths.{Keeps, walk_path_within, walk_path_exists}
+use Rattle.theory.proofs.Analysis.ChainLaws.{chain_head, next_outranking, next_job_lem, delay_step}
+use Rattle.theory.proofs.Analysis.WalkPaths.{Keeps, walk_path_within, walk_path_exists}
 
 -- A run has at most one path from a job
 

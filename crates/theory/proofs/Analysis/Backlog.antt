@@ -8,8 +8,8 @@ use Rattle.theory.specs.declared.Task.{Task}
 use Rattle.theory.specs.Model.Schedule.{period, rank, Demands, released, due, Slot, idle, busy, Run, runs, done, Pending, Schedule}
 use Rattle.arith.specs.Ranges.{sum}
 use Rattle.theory.specs.Model.Responses.{full}
-use Rattle.theory.specs.Analysis.Level.{level, cond_le, level_zero, level_add, level_le, level_tight, level_runs_lem}
-use Rattle.theory.specs.Analysis.Work.{runs_most, runs_busy, done_step, due_step}
+use Rattle.theory.proofs.Analysis.Level.{level, cond_le, level_zero, level_add, level_le, level_tight, level_runs_lem}
+use Rattle.theory.proofs.Analysis.Work.{runs_most, runs_busy, done_step, due_step}
 
 -- The work of the level that is released at tick t.
 unfoldable pub load : List Task → Demands → ℕ → ℕ → ℕ

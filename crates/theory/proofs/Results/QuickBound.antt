@@ -7,10 +7,10 @@ use Rattle.theory.specs.Model.Responses.{response, task_response, Accepted}
 use Rattle.theory.specs.Model.Chain.{Chain, outranked, bound, PathEnds}
 use Rattle.theory.specs.Model.Flag.{flag_bound, from_flag, FlagWithin}
 use Rattle.theory.specs.Model.Recurrence.{quick_response, Passing, EverLate}
-use Rattle.theory.specs.Analysis.WalkLaws.{chain_along, alike_self, walk_bound_same}
-use Rattle.theory.specs.Analysis.QuickLaws.{late_passing, passing_late, quick_response_first, quick_response_greatest, quick_response_task}
-use Rattle.theory.specs.Results.Demand3.{no_schedule_exceeds, sampling_within_bound}
-use Rattle.theory.specs.Results.Flags.{no_flag_exceeds_bound}
+use Rattle.theory.proofs.Analysis.WalkLaws.{chain_along, alike_self, walk_bound_same}
+use Rattle.theory.proofs.Analysis.QuickLaws.{late_passing, passing_late, quick_response_first, quick_response_greatest, quick_response_task}
+use Rattle.theory.proofs.Results.Demand3.{no_schedule_exceeds, sampling_within_bound}
+use Rattle.theory.proofs.Results.Flags.{no_flag_exceeds_bound}
 
 -- 1. The value passes the period exactly when some job of the task, of all its jobs, is late in the full-budget schedule.
 pub passing_is_late : {ts : List Task} (good : Proper ts) (i : ℕ) (known : i < length ts) → (Passing ts i → EverLate ts i) × (EverLate ts i → Passing ts i)

@@ -8,16 +8,16 @@ use Rattle.theory.specs.Model.Schedule.{release, busy, Starts, Finishes}
 use Rattle.theory.specs.Model.Responses.{full, full_budget, Accepted}
 use Rattle.theory.specs.Model.Chain.{Chain, HandOver, PathEnds}
 use Rattle.theory.specs.Model.Readings.{Reads, Carries}
-use Rattle.theory.specs.Analysis.Work.{done_busy, need_step}
-use Rattle.theory.specs.Analysis.Finish.{start_unique, finish_later, finish_released}
-use Rattle.theory.specs.Analysis.Existence.{full_schedule}
-use Rattle.theory.specs.Analysis.ResponseLaws.{response_finishes}
-use Rattle.theory.specs.Analysis.Clearing.{clearing, response_clearing}
-use Rattle.theory.specs.Analysis.Repetition.{never_late}
-use Rattle.theory.specs.Analysis.NeverLater.{full_within}
-use Rattle.theory.specs.Analysis.ReadingLaws.{carries_order, path_first}
-use Rattle.theory.specs.Analysis.Evaluation.{decided, proper?, clears?, clears_accepted}
-use Rattle.theory.specs.Results.Examples.{task}
+use Rattle.theory.proofs.Analysis.Work.{done_busy, need_step}
+use Rattle.theory.proofs.Analysis.Finish.{start_unique, finish_later, finish_released}
+use Rattle.theory.proofs.Analysis.Existence.{full_schedule}
+use Rattle.theory.proofs.Analysis.ResponseLaws.{response_finishes}
+use Rattle.theory.proofs.Analysis.Clearing.{clearing, response_clearing}
+use Rattle.theory.proofs.Analysis.Repetition.{never_late}
+use Rattle.theory.proofs.Analysis.NeverLater.{full_within}
+use Rattle.theory.proofs.Analysis.ReadingLaws.{carries_order, path_first}
+use Rattle.theory.proofs.Analysis.Evaluation.{decided, proper?, clears?, clears_accepted}
+use Rattle.theory.proofs.Results.Examples.{task}
 
 abbrev pub pair : List Task
 pair = task 2 1 1 ∷ task 10 1 2 ∷ []

@@ -7,9 +7,9 @@ use Prim.Native.Nat.{ℕ, zero, suc, ◌+◌, ◌<◌}
 use borrow.Author.Tests.{ltb-true, lt-ltb}
 use Rattle.theory.specs.declared.Task.{Task}
 use Rattle.theory.specs.Model.Schedule.{rank, Proper, Demands, due, Slot, idle, busy, Run, runs, done, Pending, Schedule}
-use Rattle.theory.specs.Analysis.Work.{due_demands}
+use Rattle.theory.proofs.Analysis.Work.{due_demands}
 use Rattle.theory.specs.Model.Responses.{full, full_budget}
-use Rattle.theory.specs.Analysis.GreatestLaws.{IsGreatest, greatest_is}
+use Rattle.theory.proofs.Analysis.GreatestLaws.{IsGreatest, greatest_is}
 use Rattle.theory.specs.Model.Simulate.{choice, ticks, simulate}
 use Rattle.arith.specs.Ranges.{sum}
 

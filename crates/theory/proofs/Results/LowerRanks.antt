@@ -6,9 +6,9 @@ use Rattle.theory.specs.declared.Task.{Task}
 use Rattle.theory.specs.Model.Schedule.{period, rank}
 use Rattle.theory.specs.Model.Responses.{response, hyperperiod, task_response, Accepted}
 use Rattle.theory.specs.Model.Chain.{Chain, outranked, delay, sampling, sampling_release, bound, GreatestOf}
-use Rattle.theory.specs.Analysis.WalkLaws.{Along, Alike, along_first, greatest_unique, walk_delay_same, walk_bound_same}
-use Rattle.theory.specs.Analysis.LowerLaws.{From, SameFrom, same_task, response_same, task_response_same}
-use Rattle.theory.specs.Results.Demand3.{sampling_of_all}
+use Rattle.theory.proofs.Analysis.WalkLaws.{Along, Alike, along_first, greatest_unique, walk_delay_same, walk_bound_same}
+use Rattle.theory.proofs.Analysis.LowerLaws.{From, SameFrom, same_task, response_same, task_response_same}
+use Rattle.theory.proofs.Results.Demand3.{sampling_of_all}
 
 -- A chain's figures are the same on two lists of tasks.
 pub record SameFigures (ts us : List Task) (p : ℕ) (rest : List ℕ) : Type 0 where

@@ -7,12 +7,12 @@ use Rattle.arith.specs.Ranges.{sum}
 use Rattle.arith.specs.RangeLaws.{sum_add, sum_eq, sum_zero, sum_const, sum_point}
 use Rattle.theory.specs.Model.Schedule.{budget, rank, Demands, need, released, due, Slot, idle, busy, Run, runs, done, Schedule}
 use Rattle.theory.specs.Model.Responses.{full, full_budget, hyperperiod, jobs, rests, idle_ticks, Accepted}
-use Rattle.theory.specs.Analysis.Work.{runs_self, runs_other, due_most}
-use Rattle.theory.specs.Analysis.Level.{level_add, level_all}
-use Rattle.theory.specs.Analysis.Backlog.{load, backlog, drain_step, done_most, backlog_unfinished}
-use Rattle.theory.specs.Analysis.Existence.{full_schedule}
-use Rattle.theory.specs.Analysis.Hyperperiod.{jobs_whole}
-use Rattle.theory.specs.Analysis.Repetition.{hyperperiod_done}
+use Rattle.theory.proofs.Analysis.Work.{runs_self, runs_other, due_most}
+use Rattle.theory.proofs.Analysis.Level.{level_add, level_all}
+use Rattle.theory.proofs.Analysis.Backlog.{load, backlog, drain_step, done_most, backlog_unfinished}
+use Rattle.theory.proofs.Analysis.Existence.{full_schedule}
+use Rattle.theory.proofs.Analysis.Hyperperiod.{jobs_whole}
+use Rattle.theory.proofs.Analysis.Repetition.{hyperperiod_done}
 
 module _ {ts : List Task} {d : Demands} {run : Run} (s : Schedule ts d run) where
   tick_shared : (t : ℕ) → sum (length ts) (λ j. runs j (run t)) + rests (run t) ≡ 1

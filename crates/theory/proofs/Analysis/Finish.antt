@@ -4,8 +4,8 @@ use Rattle.std.proofs.Common.{ap, subst, le_refl, le_antisymm, arith}
 use Rattle.std.proofs.Math.Decide.{ℕ_discrete}
 use Rattle.theory.specs.declared.Task.{Task}
 use Rattle.theory.specs.Model.Schedule.{release, rank, Proper, Demands, need, due, Run, done, Pending, Schedule, Starts, Finishes}
-use Rattle.theory.specs.Analysis.Work.{done_busy, done_grows, done_passes, need_step, need_grows, due_covers, due_most}
-use Rattle.theory.specs.Analysis.Backlog.{backlog, backlog_empty, empty_backlog}
+use Rattle.theory.proofs.Analysis.Work.{done_busy, done_grows, done_passes, need_step, need_grows, due_covers, due_most}
+use Rattle.theory.proofs.Analysis.Backlog.{backlog, backlog_empty, empty_backlog}
 
 -- After tick r the function f is first 0 at z.
 pub record FirstZero (f : ℕ → ℕ) (r z : ℕ) : Type 0 where

@@ -8,13 +8,13 @@ use Rattle.std.proofs.Math.Decide.{ℕ_discrete}
 use Rattle.arith.specs.RangeLaws.{sum_eq}
 use Rattle.theory.specs.Model.Schedule.{release, budget, Demands, Within, need, busy, Run, Schedule, Starts, Finishes}
 use Rattle.theory.specs.Model.Responses.{full, full_budget, response, hyperperiod}
-use Rattle.theory.specs.Analysis.Work.{done_busy, need_step}
-use Rattle.theory.specs.Analysis.Finish.{start_unique}
-use Rattle.theory.specs.Analysis.Existence.{schedule_unique, schedule_same}
-use Rattle.theory.specs.Analysis.ResponseLaws.{response_finishes}
-use Rattle.theory.specs.Analysis.Repetition.{never_late, response_jobs}
-use Rattle.theory.specs.Analysis.Evaluation.{decided, all?}
-use Rattle.theory.specs.Results.Examples.{quartet, quartet_accepted, quartet_rows}
+use Rattle.theory.proofs.Analysis.Work.{done_busy, need_step}
+use Rattle.theory.proofs.Analysis.Finish.{start_unique}
+use Rattle.theory.proofs.Analysis.Existence.{schedule_unique, schedule_same}
+use Rattle.theory.proofs.Analysis.ResponseLaws.{response_finishes}
+use Rattle.theory.proofs.Analysis.Repetition.{never_late, response_jobs}
+use Rattle.theory.proofs.Analysis.Evaluation.{decided, all?}
+use Rattle.theory.proofs.Results.Examples.{quartet, quartet_accepted, quartet_rows}
 use Rattle.theory.specs.Model.Chain.{HandOver, PathEnds}
 
 -- The responses of the chain's two tasks: 3 and 1 in turn, and 5.

@@ -6,8 +6,8 @@ use Rattle.theory.specs.declared.Task.{Task}
 use Rattle.theory.specs.Model.Schedule.{period, release, rank, Proper}
 use Rattle.theory.specs.Model.Responses.{hyperperiod, jobs}
 use Rattle.theory.specs.Model.Chain.{Chain, Table, outranked, next_release, delay}
-use Rattle.theory.specs.Analysis.Hyperperiod.{hyperperiod_cycle}
-use Rattle.theory.specs.Analysis.WalkLaws.{chain_first, walk_next_finish, walk_next_job, walk_next_later, walk_delay_step, walk_delay_again, walk_delay_turns}
+use Rattle.theory.proofs.Analysis.Hyperperiod.{hyperperiod_cycle}
+use Rattle.theory.proofs.Analysis.WalkLaws.{chain_first, walk_next_finish, walk_next_job, walk_next_later, walk_delay_step, walk_delay_again, walk_delay_turns}
 
 pub chain_head : (ts : List Task) (p : ℕ) (rest : List ℕ) → Chain ts p rest → p < length ts
 chain_head ts = chain_first (length ts)

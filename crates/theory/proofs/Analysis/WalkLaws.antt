@@ -12,7 +12,7 @@ use Rattle.arith.specs.Whole.{gcd, up}
 use Rattle.arith.specs.WholeLaws.{gcd_divides_left, gcd_divides_right, gcd_pos, gap_multiple, up_divides, up_above, up_near, up_mono, up_shift}
 use Rattle.arith.specs.Ranges.{maximum, least}
 use Rattle.arith.specs.RangeLaws.{maximum_above, maximum_least, maximum_reached, least_passes, least_first}
-use Rattle.theory.specs.Analysis.Hyperperiod.{Cycle, cycle_jobs, cycle_before}
+use Rattle.theory.proofs.Analysis.Hyperperiod.{Cycle, cycle_jobs, cycle_before}
 use Rattle.theory.specs.Model.Chain.{ChainOf, Waits, Table, walk_next, walk_delay, walk_worst, walk_worst_release, walk_bound, GreatestOf}
 
 pub chain_first : (n p : ℕ) (rest : List ℕ) → ChainOf n p rest → p < n

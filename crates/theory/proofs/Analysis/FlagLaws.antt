@@ -9,11 +9,11 @@ use Rattle.theory.specs.declared.Task.{Task}
 use Rattle.theory.specs.Model.Schedule.{period, release, rank, Proper, Demands, Within, need, Slot, idle, busy, Run, done, Pending, Schedule, Starts}
 use Rattle.theory.specs.Model.Responses.{Accepted}
 use Rattle.theory.specs.Model.Flag.{Takes, flag_wait, FlagWithin}
-use Rattle.theory.specs.Analysis.Work.{done_grows, need_step, due_covers, due_most}
-use Rattle.theory.specs.Analysis.Backlog.{done_most}
-use Rattle.theory.specs.Analysis.Finish.{done_starts, start_later, start_unique, start_released}
-use Rattle.theory.specs.Analysis.Repetition.{response_period}
-use Rattle.theory.specs.Analysis.NeverLater.{job_starts, job_finishes, finish_response}
+use Rattle.theory.proofs.Analysis.Work.{done_grows, need_step, due_covers, due_most}
+use Rattle.theory.proofs.Analysis.Backlog.{done_most}
+use Rattle.theory.proofs.Analysis.Finish.{done_starts, start_later, start_unique, start_released}
+use Rattle.theory.proofs.Analysis.Repetition.{response_period}
+use Rattle.theory.proofs.Analysis.NeverLater.{job_starts, job_finishes, finish_response}
 
 -- One job takes a flag.
 pub takes_unique : {d : Demands} {run : Run} {p e j k : ℕ} → Takes d run p e j → Takes d run p e k → j ≡ k

@@ -3,7 +3,7 @@ use Rattle.std.specs.Prelude.{◌≡◌, refl, List, [], ◌∷◌}
 use Rattle.arith.specs.Ranges.{sum, least}
 use Rattle.theory.specs.declared.Task.{Task}
 use Rattle.theory.specs.Model.Recurrence.{quotient, claim, fixed_point, quick_response}
-use Rattle.theory.specs.Results.Examples.{task, radio}
+use Rattle.theory.proofs.Results.Examples.{task, radio}
 
 -- "Periods 997, 1,009 and 1,013"
 abbrev pub odd : List Task

@@ -8,9 +8,9 @@ use Rattle.std.proofs.Math.Decide.{dec_lt}
 use Rattle.theory.specs.declared.Task.{Task}
 use Rattle.theory.specs.Model.Schedule.{period, release, Proper, need, done}
 use Rattle.theory.specs.Model.Responses.{full, full_budget, response, Late}
-use Rattle.theory.specs.Analysis.Backlog.{load, drain, full_backlog, drain_step}
-use Rattle.theory.specs.Analysis.Finish.{FirstZero}
-use Rattle.theory.specs.Analysis.ResponseLaws.{late_response, zero_on_time, response_first_zero, response_most}
+use Rattle.theory.proofs.Analysis.Backlog.{load, drain, full_backlog, drain_step}
+use Rattle.theory.proofs.Analysis.Finish.{FirstZero}
+use Rattle.theory.proofs.Analysis.ResponseLaws.{late_response, zero_on_time, response_first_zero, response_most}
 
 -- From the backlog b just before the releases of tick t: the ticks until it is 0, or n where that is not below n.
 unfoldable pub until : (ℕ → ℕ) → ℕ → ℕ → ℕ → ℕ

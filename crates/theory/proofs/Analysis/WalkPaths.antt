@@ -8,8 +8,8 @@ use Rattle.arith.specs.Ranges.{least}
 use Rattle.arith.specs.RangeLaws.{least_passes, least_first}
 use Rattle.theory.specs.Model.Schedule.{Demands, Run, Starts, Finishes}
 use Rattle.theory.specs.Model.Chain.{ChainOf, Waits, Table, walk_next, walk_delay, HandOver, PathEnds}
-use Rattle.theory.specs.Analysis.Finish.{start_unique}
-use Rattle.theory.specs.Analysis.WalkLaws.{chain_first, walk_next_finish, walk_next_job, walk_next_later, walk_delay_step}
+use Rattle.theory.proofs.Analysis.Finish.{start_unique}
+use Rattle.theory.proofs.Analysis.WalkLaws.{chain_first, walk_next_finish, walk_next_job, walk_next_later, walk_delay_step}
 
 -- What a walk needs of a run: jobs start, at or after their release, and finish, within their response after it; responses are within periods;
 -- and where a hand-over does not wait, no job of the consumer starts before one of the producer that is released no later has finished.

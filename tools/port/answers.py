@@ -400,9 +400,6 @@ def turn(text, old, entry, crate, rel, source):
     req, ens = requires_labels(source, fn)
 
     def paths(body, var="c", goal=None):
-        for n, place in placed.items():
-            arg = r"(?:" + re.escape(var) + r"(?:\.before)*(?![\w.-])|\((?:[\w-]+ |\()*" + re.escape(var) + r"(?:\.before)*\)+)"
-            body = re.sub(r"(?<![\w.-])" + re.escape(n) + " " + arg, f"{n} (goal.at.{goal} \0).{place}", body)
         body = re.sub(r"^(\S+) " + var + r" κs =", r"\1 " + var + " =", body, flags=re.M)
         for _ in range(12):
             before = body
@@ -417,6 +414,9 @@ def turn(text, old, entry, crate, rel, source):
                 body = re.sub(r"(?<![\w.'-])" + re.escape(m.group(1)) + r"(?![\w'-])", var, body)
             if body == before:
                 break
+        for n, place in placed.items():
+            arg = r"(?:" + re.escape(var) + r"(?![\w.'-])|\(" + re.escape(var) + r"\))"
+            body = re.sub(r"(?<![\w.-])" + re.escape(n) + " " + arg, f"{n} (goal.at.{goal} \0).{place}", body)
         body = clause_path(clause_path(body, "pre", req), "requires", req)
         body = re.sub(r"(?<![\w.'-])" + var + r"\.pre(?![\w-])", var + ".requires", body)
         body = re.sub(r"\.pre\.(?=[a-z])", ".requires.", body)

@@ -31,14 +31,14 @@ use Rattle.schedule.specs.Lateness.{job_late, late_job}
 use Rattle.schedule.specs.Conditions.{Period, brings, placed, coming, most_clear, rests_to, Additive, Level, Walk, Walked, RowFilled}
 
 -- What comes in is the load of the level.
-pub coming_load : {ts : List Task} {i : ℕ} {periods budgets : List ℕ} {size : ℕ} → Level ts _ i periods budgets size → coming (get_or ts _ i none) periods budgets size ≡ load ts _ (full ts) i
+pub coming_load : {ts : List Task} {i : ℕ} {periods budgets : List ℕ} {size : ℕ} → Level ts i periods budgets size → coming (get_or ts i none) periods budgets size ≡ load ts (full ts) i
 unfolding coming placed load released
 coming_load g = fun_ext (λ t. g.sums (brings t) (brings_adds t))
   where
     brings_adds : (t : ℕ) → Additive (brings t)
-    brings_adds t T a _ b = go (eqb (t % T) 0)
+    brings_adds t T a b = go (eqb (t % T) 0)
       where
-        go : (c : Bool) → cond c (a + b) 0 ≡ cond c a _ 0 + cond c b 0
+        go : (c : Bool) → cond c (a + b) 0 ≡ cond c a 0 + cond c b 0
         go true = refl
         go false = refl
 

@@ -93,21 +93,21 @@ module _ (s : Sheet) (ok : Sound s) (i : ℕ) (known : i < s.count) where
       some (no z) = omega arith
 
 -- Where none of the first i + 1 tasks is late, neither are the first i nor task i.
-pub none_late_before : (ts : List Task) (i : ℕ) → late_greatest ts _ (suc i) ≡ idle → (late_greatest ts _ i ≡ idle) × (late_task ts _ i ≡ false)
+pub none_late_before : (ts : List Task) (i : ℕ) → late_greatest ts (suc i) ≡ idle → (late_greatest ts i ≡ idle) × (late_task ts i ≡ false)
 unfolding greatest
-none_late_before ts _ i = go (late_task ts _ i) (late_greatest ts _ i)
+none_late_before ts i = go (late_task ts i) (late_greatest ts i)
   where
     go : (b : Bool) (x : Slot) → cond b (outranking (rank ts) i x) x ≡ idle → (x ≡ idle) × (b ≡ false)
     go false x e = (e, refl)
     go true idle e = let z : ◌≡◌ {A = ℕ} 0 1 = cc in absurd (omega arith)
-    go true (busy j) e = pick (ltb (rank ts _ j) (rank ts _ i)) e
+    go true (busy j) e = pick (ltb (rank ts j) (rank ts i)) e
       where
         pick : (b : Bool) → cond b (busy i) (busy j) ≡ idle → (busy j ≡ idle) × (true ≡ false)
         pick true q = let z : ◌≡◌ {A = ℕ} 0 1 = cc in absurd (omega arith)
         pick false q = let z : ◌≡◌ {A = ℕ} 0 1 = cc in absurd (omega arith)
 
 -- The level of the lowest rank rests where the processor is idle.
-pub lowest_idle : (ts : List Task) {low rests : ℕ} → 0 < length ts → LowestTo ts _ (length ts) low rests → rests ≡ idle_ticks ts
+pub lowest_idle : (ts : List Task) {low rests : ℕ} → 0 < length ts → LowestTo ts (length ts) low rests → rests ≡ idle_ticks ts
 unfolding idle_ticks rests_to
-lowest_idle ts _ {low} some f =
+lowest_idle ts {low} some f =
     (f.rest some).1 ∙ sum_eq (hyperperiod ts) _ _ (λ t l. sym (idle_backlog (full_schedule ts) low f.lowest t))

@@ -7,6 +7,7 @@ use Rattle.sheet.specs.TaskLaws.{place_allowed}
 use Rattle.schedule.proofs.Tasks.{GatheredTo, gather_start, gather_level_lem, gather_in, gather_with, gather_out}
 use borrow.Author.Rules.{rules}
 use Rattle.schedule.proofs.gather_level.Goals as goal
+use Rattle.schedule.proofs.gather_level.Goals.{then-own-t+then-p-size, then-own-t+else-p-size, else-own-t}
 
 pub loop-j-init : goal.loop-j-init
 loop-j-init c = gather_start _ c.requires.sound c.args.i c.requires.level_lengths.0 c.args.periods.now c.args.budgets.now c.requires.level_lengths.1 c.requires.level_lengths.2
@@ -21,16 +22,15 @@ pub loop-j-preserved : goal.loop-j-preserved
 loop-j-preserved c =
     let l = c.loop-j in
     let known : l.j < c.args.s.count = omega arith in
-    ⊎_elim
-    (λ w. rw (w.6, w.7, w.8) (gather_with c.requires.sound c.args.i c.requires.level_lengths.0 l.invariant known w.0.taken w.2.result w.3.taken (w.2.ensures.holds w.3.taken)))
-    (λ v.
-    ⊎_elim
-    (λ w.
-    let new : w.2.result ≡ l.size = omega (arith, w.2.ensures.within, w.3.left) in
-    rw (w.4, w.5, w.6, new) (gather_in c.requires.sound c.args.i c.requires.level_lengths.0 l.invariant known w.0.taken))
-    (λ w. rw (w.1, w.2, w.3) (gather_out c.requires.sound c.args.i c.requires.level_lengths.0 l.invariant known w.0.left))
-    v)
-    c.if-own-t.branch
+    elim c.if-own-t.branch [
+      then-own-t+then-p-size w ↦
+        rw (w.periods-is, w.budgets-is, w.size-is) (gather_with _ c.requires.sound c.args.i c.requires.level_lengths.0 l.invariant known w.if-own-t.true w.period_place-p.result w.if-p-size.true (w.period_place-p.ensures.holds w.if-p-size.true))
+    | then-own-t+else-p-size w ↦
+        let new : w.period_place-p.result ≡ l.size = omega (arith, w) in
+        rw (w.periods-is, w.budgets-is, w.size-is, new) (gather_in _ c.requires.sound c.args.i c.requires.level_lengths.0 l.invariant known w.if-own-t.true)
+    | else-own-t w ↦
+        rw (w.periods-is, w.budgets-is, w.size-is) (gather_out _ c.requires.sound c.args.i c.requires.level_lengths.0 l.invariant known w.if-own-t.false)
+    ]
 
 pub returns : goal.returns
 returns c =

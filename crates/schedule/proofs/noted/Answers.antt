@@ -40,7 +40,7 @@ pub returns-in-Late-found-2 : goal.returns-in-Late-found-2
 returns-in-Late-found-2 c =
     let ts = tasks_of c.args.s in
     let late = c.in-Late-found-2.is in
-    subst (FoundTo ts (suc c.args.i)) (sym late) (on_time_late _ c.requires.sound c.args.i c.requires.task_known (subst (FoundTo ts c.args.i) c.requires.found_before)
+    subst (FoundTo ts (suc c.args.i)) (sym late) (on_time_late _ c.requires.sound c.args.i c.requires.task_known (subst (FoundTo ts c.args.i) late c.requires.found_before)
     (subst (Noted ts c.args.i) c.in-Rests.is c.requires.row_noted).0)
 
 pub returns-then-s-i : goal.returns-then-s-i

@@ -8,17 +8,17 @@ use Rattle.arith.specs.WholeLaws.{up_above}
 use Rattle.schedule.specs.Conditions.{brings, placed, coming}
 use Rattle.schedule.proofs.Releases.{Moved, moved_now, moved_later, TurnedTo, turn_start, placed_fits, turned_now, turned_later}
 use borrow.Author.Rules.{rules}
-use Rattle.schedule.proofs.turn.Goals.{Joined-due-at}
+use Rattle.schedule.proofs.turn.Goals.{Joined-due-at, then-due-at, else-due-at, then-release-soon+then-release-at+then-after-soon, then-release-soon+then-release-at+else-after-soon, then-release-soon+else-release-at, else-release-soon}
 use Rattle.schedule.proofs.turn.Goals as goal
 
 -- The own task, after its release if that is now.
-own_moved : (c : Joined-due-at) → let x = c.before.args in Moved x.own.period x.own.budget x.at x.clear-1 c.if-due-at.due c.if-due-at.clear
+own_moved : (c : Joined-due-at) → let x = c.before.args in Moved x.own.period x.own.budget x.at x.clear c.if-due-at.due c.if-due-at.clear
 own_moved c =
     let r = c.before.requires in
-    ⊎_elim
-    (λ w. moved_now r.own_positive r.next_at.own_at w.0.taken w.3 w.4)
-    (λ w. moved_later r.own_positive r.next_at.own_at w.0.left w.1 w.2)
-    c.if-due-at.branch
+    elim c.if-due-at.branch [
+      then-due-at w ↦ moved_now r.own_positive r.next_at.own_at w.if-due-at.true w.due-is w.clear-is
+    | else-due-at w ↦ moved_later r.own_positive r.next_at.own_at w.if-due-at.false w.due-is w.clear-is
+    ]
 
 pub overflow_add-clear : goal.overflow_add-clear
 unfolding coming
@@ -35,7 +35,7 @@ pub overflow_add-clear-then-release-at : goal.overflow_add-clear-then-release-at
 unfolding coming
 overflow_add-clear-then-release-at c =
     let l = c.loop-p in
-    omega (arith, placed_fits c.requires.places l.invariant (omega arith) c.if-release-at.true, c.requires.fits, own_moved c)
+    omega (arith, placed_fits c.requires.places l.invariant (omega arith) c.if-release-at.true, c.requires.fits, own_moved (goal.at.overflow_add-clear-then-release-at c).Joined-due-at)
 
 pub overflow_add-after : goal.overflow_add-after
 overflow_add-after c =
@@ -48,14 +48,16 @@ loop-p-preserved c =
     let known : l.p < c.args.size = omega arith in
     let positive = c.requires.places.period_positive l.p known in
     let first = l.invariant.place_at l.p (le_refl l.p) known in
-    ⊎_elim
-    (λ w. turned_now c.requires.places l.invariant known (moved_now positive first w.1.taken refl w.7) (omega (arith, w.5, w.8)) (omega (arith, w.8)) (λ m. omega (arith, w.8)) w.6)
-    (⊎_elim
-    (λ w. turned_now c.requires.places l.invariant known (moved_now positive first w.1.taken refl w.7) (omega (arith, w.8)) (omega (arith, w.5, w.8)) (λ m. omega (arith, w.8, l.invariant.later)) w.6)
-    (⊎_elim
-    (λ w. turned_later c.requires.places l.invariant known (moved_later positive first w.1.left refl w.3) (omega (arith, w.0, w.4)) (omega (arith, w.4)) (λ m. omega (arith, w.4)) w.2 refl)
-    (λ w. turned_later c.requires.places l.invariant known (moved_later positive first (λ z. omega (arith, w.0, l.invariant.later)) refl w.2) (omega (arith, w.3)) (omega (arith, w.0, w.3)) (λ m. omega (arith, w.3, l.invariant.later)) w.1 refl)))
-    c.if-release-soon.branch
+    elim c.if-release-soon.branch [
+      then-release-soon+then-release-at+then-after-soon w ↦
+        turned_now c.requires.places l.invariant known (moved_now positive first w.if-release-at.true refl w.clear-is) (omega (arith, w)) (omega (arith, w)) (λ m. omega (arith, w)) w.next-is
+    | then-release-soon+then-release-at+else-after-soon w ↦
+        turned_now c.requires.places l.invariant known (moved_now positive first w.if-release-at.true refl w.clear-is) (omega (arith, w)) (omega (arith, w)) (λ m. omega (arith, w, l.invariant.later)) w.next-is
+    | then-release-soon+else-release-at w ↦
+        turned_later c.requires.places l.invariant known (moved_later positive first w.if-release-at.false refl w.clear-is) (omega (arith, w)) (omega (arith, w)) (λ m. omega (arith, w)) w.next-is refl
+    | else-release-soon w ↦
+        turned_later c.requires.places l.invariant known (moved_later positive first (λ z. omega (arith, w, l.invariant.later)) refl w.clear-is) (omega (arith, w)) (omega (arith, w)) (λ m. omega (arith, w, l.invariant.later)) w.next-is refl
+    ]
 
 pub returns : goal.returns
 unfolding coming

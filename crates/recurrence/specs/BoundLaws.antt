@@ -53,7 +53,7 @@ chain_on ok number known whole = record {
 module _ {s : Sheet} (ok : Sound s) {responses : List ℕ} (responding : Responding s responses) where
   pub small : (i : ℕ) → i < s.count → SmallTask most_period (period (tasks_of s)) (quick_response (tasks_of s)) i
   small i l =
-      let t = task_allowed _ ok i (omega (arith, tasks_length _ ok)) in
+      let t = task_allowed s ok i (omega (arith, tasks_length _ ok)) in
       record {
         period_positive = t.period_positive;
         period_most = t.period_most;

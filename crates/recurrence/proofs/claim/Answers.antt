@@ -1,6 +1,6 @@
 -- After p turns the claim is that of the first p places.
-use mathlib.Core.Path.{◌≡◌, ap, ◌∙◌}
-use Prim.Native.Nat.{◌-◌, ◌≤◌, ◌<◌}
+use mathlib.Core.Path.{ap, ◌∙◌}
+use Prim.Native.Nat.{◌<◌}
 use native.Mathlib.Nat.{lt_of_le_of_lt}
 use native.Mathlib.Numerals.{add-one}
 use native.Mathlib.Omega.{arith}
@@ -8,7 +8,7 @@ use Rattle.arith.specs.Ranges.{sum}
 use Rattle.theory.specs.Model.Recurrence.{quotient}
 use Rattle.recurrence.specs.Conditions.{claim_in}
 use Rattle.recurrence.specs.ClaimLaws.{claim_most, product_most, added_most}
-use borrow.Author.Rules.{rules, Fits-under}
+use borrow.Author.Rules.{Fits-under}
 use Rattle.recurrence.proofs.claim.Goals as goal
 
 pub loop-p-init : goal.loop-p-init

@@ -1,13 +1,6 @@
-use mathlib.Core.Path.{◌≡◌, ap, ◌∙◌}
-use Prim.Native.Nat.{◌-◌, ◌≤◌, ◌<◌}
-use native.Mathlib.Nat.{lt_of_le_of_lt}
-use native.Mathlib.Numerals.{add-one}
-use native.Mathlib.Omega.{arith}
-use Rattle.arith.specs.Ranges.{sum}
-use Rattle.theory.specs.Model.Recurrence.{quotient}
+use mathlib.Core.Path.{◌≡◌}
+use Prim.Native.Nat.{◌-◌, ◌≤◌}
 use Rattle.recurrence.specs.Conditions.{claim_in}
-use Rattle.recurrence.specs.ClaimLaws.{claim_most, product_most, added_most}
-use borrow.Author.Rules.{rules, Fits-under}
 use Rattle.recurrence.proofs.claim.Given as goal
 
 abbrev pub invariant-loop-p : goal.invariant-loop-p

@@ -1,24 +1,12 @@
 -- The candidates climb and pass no fixed point, so the first that repeats is the least, and once the period is passed there is none up to it.
-use mathlib.Core.Path.{◌≡◌, sym, ◌∙◌, subst}
-use Prim.Native.Nat.{◌+◌, ◌-◌}
+use mathlib.Core.Path.{sym, ◌∙◌, subst}
 use native.Mathlib.Omega.{arith}
-use lib.ListN.{get_or}
-use Rattle.theory.specs.Model.Schedule.{none, budget}
-use Rattle.theory.specs.Model.Recurrence.{claim}
+use Rattle.theory.specs.Model.Schedule.{budget}
 use Rattle.theory.proofs.Analysis.RecurrenceLaws.{Climbs, climb_start, climb_step, climb_fixed, climb_over}
 use Rattle.sheet.specs.Tasks.{tasks_of}
 use Rattle.sheet.specs.TaskLaws.{sound_proper, period_at, budget_at, place_allowed}
 use Rattle.recurrence.specs.ClaimLaws.{claim_is}
-use borrow.Author.Rules.{rules}
-use Rattle.recurrence.proofs.climb.Goals.{Else-next-candidate}
 use Rattle.recurrence.proofs.climb.Goals as goal
-
--- The next candidate is the claim at this one.
-next_is : (c : Else-next-candidate)
-    → let a = c.before.before.before.before.args in c.before.claim.result ≡ claim (tasks_of a.s) (budget (tasks_of a.s)) a.i c.before.before.before.loop.candidate
-next_is c =
-    let a = c.before.before.before.before in
-    c.before.claim.ensures ∙ claim_is _ a.requires.sound a.args.i a.requires.i_lt_count.0 a.requires.i_lt_count.1 c.before.before.before.loop.candidate
 
 pub loop-candidate-init : goal.loop-candidate-init
 loop-candidate-init c =
@@ -33,13 +21,24 @@ claim-next-requires c =
     let t = place_allowed _ c.requires.sound c.args.i c.requires.i_lt_count.0 in
     record { places = c.requires.i_lt_count.1.placed; own_le_most_period = (omega (arith, t.budget_most, t.period_most), omega (arith, c.if-period-candidate.false, t.period_most)) }
 
+-- The next candidate is the claim at this one.
 pub loop-candidate-smaller : goal.loop-candidate-smaller
-loop-candidate-smaller c = omega (arith, c.if-period-candidate.false, c.if-next-candidate.false, next_is (goal.at.loop-candidate-smaller c).Else-next-candidate, c.loop-candidate.invariant.rises)
+loop-candidate-smaller c =
+    omega (
+      arith,
+      c.if-period-candidate.false,
+      c.if-next-candidate.false,
+      c.claim-next.ensures,
+      claim_is _ c.requires.sound c.args.i c.requires.i_lt_count.0 c.requires.i_lt_count.1 c.loop-candidate.candidate,
+      c.loop-candidate.invariant.rises,
+    )
 
 pub loop-candidate-preserved : goal.loop-candidate-preserved
 loop-candidate-preserved c =
     let ts = tasks_of c.args.s in
-    subst (Climbs ts (budget ts) c.args.i) (sym (next_is (goal.at.loop-candidate-preserved c).Else-next-candidate)) (climb_step c.loop-candidate.invariant (sound_proper _ c.requires.sound))
+    subst (Climbs ts (budget ts) c.args.i)
+    (sym (c.claim-next.ensures ∙ claim_is _ c.requires.sound c.args.i c.requires.i_lt_count.0 c.requires.i_lt_count.1 c.loop-candidate.candidate))
+    (climb_step c.loop-candidate.invariant (sound_proper _ c.requires.sound))
 
 pub returns-then-period-candidate : goal.returns-then-period-candidate
 returns-then-period-candidate c =

@@ -1,14 +1,8 @@
-use mathlib.Core.Path.{◌≡◌, sym, ◌∙◌, subst}
 use Prim.Native.Nat.{◌+◌, ◌-◌}
-use native.Mathlib.Omega.{arith}
 use lib.ListN.{get_or}
 use Rattle.theory.specs.Model.Schedule.{none, budget}
-use Rattle.theory.specs.Model.Recurrence.{claim}
-use Rattle.theory.proofs.Analysis.RecurrenceLaws.{Climbs, climb_start, climb_step, climb_fixed, climb_over}
+use Rattle.theory.proofs.Analysis.RecurrenceLaws.{Climbs}
 use Rattle.sheet.specs.Tasks.{tasks_of}
-use Rattle.sheet.specs.TaskLaws.{sound_proper, period_at, budget_at, place_allowed}
-use Rattle.recurrence.specs.ClaimLaws.{claim_is}
-use borrow.Author.Rules.{rules}
 use Rattle.recurrence.proofs.climb.Given as goal
 
 abbrev pub invariant-loop-candidate : goal.invariant-loop-candidate

@@ -1,13 +1,7 @@
-use mathlib.Core.Path.{◌≡◌, sym, ap, ap₂, ◌∙◌}
-use Prim.Native.Nat.{◌+◌, ◌-◌, ◌≤◌, ◌<◌}
-use native.Mathlib.Omega.{arith}
-use lib.ListN.{set}
-use Rattle.bits.specs.Bits.{list_of}
-use Rattle.sheet.specs.PlaceLaws.{places_set}
-use Rattle.sheet.specs.Tasks.{tasks_of, chain_count, chain_of}
-use Rattle.sheet.specs.TaskLaws.{number_known, chains_most}
-use Rattle.recurrence.specs.Calls.{bounds_of, no_bounds, bounds_to}
-use borrow.Author.Rules.{rules}
+use mathlib.Core.Path.{◌≡◌}
+use Prim.Native.Nat.{◌-◌, ◌≤◌}
+use Rattle.sheet.specs.Tasks.{chain_count}
+use Rattle.recurrence.specs.Calls.{bounds_to}
 use Rattle.recurrence.proofs.each_bounds.Given as goal
 
 abbrev pub invariant-loop-c : goal.invariant-loop-c

@@ -1,6 +1,5 @@
 -- After i turns the first i places hold the values of their tasks.
-use mathlib.Core.Path.{◌≡◌, refl, ap, ap₂, ◌∙◌}
-use Prim.Native.Nat.{◌-◌, ◌≤◌}
+use mathlib.Core.Path.{refl, ap, ap₂, ◌∙◌}
 use native.Mathlib.Omega.{arith}
 use lib.ListN.{set}
 use Rattle.bits.specs.Bits.{list_of}
@@ -8,7 +7,6 @@ use Rattle.theory.specs.Model.Recurrence.{quick_response}
 use Rattle.sheet.specs.Calls.{places}
 use Rattle.sheet.specs.PlaceLaws.{places_set}
 use Rattle.sheet.specs.Tasks.{tasks_of}
-use borrow.Author.Rules.{rules}
 use Rattle.recurrence.proofs.each_response.Goals as goal
 
 pub loop-i-init : goal.loop-i-init

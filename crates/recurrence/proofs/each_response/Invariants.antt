@@ -1,13 +1,8 @@
-use mathlib.Core.Path.{◌≡◌, refl, ap, ap₂, ◌∙◌}
+use mathlib.Core.Path.{◌≡◌}
 use Prim.Native.Nat.{◌-◌, ◌≤◌}
-use native.Mathlib.Omega.{arith}
-use lib.ListN.{set}
-use Rattle.bits.specs.Bits.{list_of}
 use Rattle.theory.specs.Model.Recurrence.{quick_response}
 use Rattle.sheet.specs.Calls.{places}
-use Rattle.sheet.specs.PlaceLaws.{places_set}
 use Rattle.sheet.specs.Tasks.{tasks_of}
-use borrow.Author.Rules.{rules}
 use Rattle.recurrence.proofs.each_response.Given as goal
 
 abbrev pub invariant-loop-i : goal.invariant-loop-i

@@ -1,12 +1,11 @@
 -- Each task that outranks task i takes the next place.
 use mathlib.Core.Path.{◌≡◌, subst}
-use mathlib.Core.Logic.{⊎_elim}
 use native.Mathlib.Omega.{arith}
-use Prim.Native.Nat.{◌-◌, ◌<◌}
+use Prim.Native.Nat.{◌<◌}
 use Rattle.sheet.specs.Tasks.{tasks_of}
 use Rattle.recurrence.specs.Conditions.{Outranking}
-use Rattle.recurrence.specs.ClaimLaws.{GatheredTo, gather_start, gather_in, gather_out}
-use borrow.Author.Rules.{rules}
+use Rattle.recurrence.specs.ClaimLaws.{gather_start, gather_in, gather_out}
+use Rattle.recurrence.proofs.gather.Goals.{then-rank-t, else-rank-t}
 use Rattle.recurrence.proofs.gather.Goals as goal
 
 pub loop-j-init : goal.loop-j-init
@@ -16,10 +15,10 @@ pub loop-j-preserved : goal.loop-j-preserved
 loop-j-preserved c =
     let l = c.loop-j in
     let known : l.j < c.args.s.count = omega arith in
-    ⊎_elim
-    (λ w. rw (w.1, w.2, w.3) (gather_in c.requires.sound c.args.i c.requires.i_lt_count.0 l.invariant known w.0.taken))
-    (λ w. rw (w.1, w.2, w.3) (gather_out c.requires.sound c.args.i c.requires.i_lt_count.0 l.invariant known w.0.left))
-    c.if-rank-t.branch
+    elim c.if-rank-t.branch [
+      | then-rank-t w ↦ rw (w.periods-is, w.budgets-is, w.size-is) (gather_in c.requires.sound c.args.i c.requires.i_lt_count.0 l.invariant known w.if-rank-t.true)
+      | else-rank-t w ↦ rw (w.periods-is, w.budgets-is, w.size-is) (gather_out c.requires.sound c.args.i c.requires.i_lt_count.0 l.invariant known w.if-rank-t.false)
+    ]
 
 pub returns : goal.returns
 returns c =

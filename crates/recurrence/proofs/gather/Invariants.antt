@@ -1,11 +1,5 @@
-use mathlib.Core.Path.{◌≡◌, subst}
-use mathlib.Core.Logic.{⊎_elim}
-use native.Mathlib.Omega.{arith}
-use Prim.Native.Nat.{◌-◌, ◌<◌}
-use Rattle.sheet.specs.Tasks.{tasks_of}
-use Rattle.recurrence.specs.Conditions.{Outranking}
-use Rattle.recurrence.specs.ClaimLaws.{GatheredTo, gather_start, gather_in, gather_out}
-use borrow.Author.Rules.{rules}
+use Prim.Native.Nat.{◌-◌}
+use Rattle.recurrence.specs.ClaimLaws.{GatheredTo}
 use Rattle.recurrence.proofs.gather.Given as goal
 
 abbrev pub invariant-loop-j : goal.invariant-loop-j

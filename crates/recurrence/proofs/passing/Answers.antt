@@ -1,11 +1,10 @@
 -- After i turns the greatest-ranked of the first i that passes its period is found.
 use mathlib.Core.Path.{sym, ap, ◌∙◌}
-use mathlib.Core.Logic.{⊎_elim}
-use Prim.Native.Nat.{◌-◌, ◌≤◌, ◌<◌}
+use Prim.Native.Nat.{◌<◌}
 use native.Mathlib.Omega.{arith}
 use Rattle.sheet.specs.Lateness.{lateness}
-use Rattle.recurrence.specs.CallLaws.{FoundTo, slot_of, found_start, found_more, found_lower, found_same, found_all, some_slot}
-use borrow.Author.Rules.{rules}
+use Rattle.recurrence.specs.CallLaws.{slot_of, found_start, found_more, found_lower, found_same, found_all, some_slot}
+use Rattle.recurrence.proofs.passing.Goals.{then-t-responses+then-above-rank, then-t-responses+else-above-rank, else-t-responses}
 use Rattle.recurrence.proofs.passing.Goals as goal
 
 pub loop-i-init : goal.loop-i-init
@@ -16,14 +15,11 @@ loop-i-preserved c =
     let l = c.loop-i in
     let known : l.i < c.args.s.count = omega arith in (
       omega arith,
-      ⊎_elim
-          (λ w. rw (w.3, w.4) (found_more c.requires.sound c.requires.responses_value known l.invariant.1 w.0.taken w.2.taken))
-          (λ v.
-          ⊎_elim
-          (λ w. rw (w.3, w.4) (found_lower c.requires.sound c.requires.responses_value known l.invariant.1 w.0.taken w.2.left))
-          (λ w. rw (w.1, w.2) (found_same c.requires.sound c.requires.responses_value known l.invariant.1 w.0.left))
-          v)
-          c.if-t-responses.branch,
+      elim c.if-t-responses.branch [
+        | then-t-responses+then-above-rank w ↦ rw (w.above-is, w.found-is) (found_more c.args.s c.requires.sound c.requires.responses_value known l.invariant.1 w.if-t-responses.true w.if-above-rank.true)
+        | then-t-responses+else-above-rank w ↦ rw (w.above-is, w.found-is) (found_lower c.args.s c.requires.sound c.requires.responses_value known l.invariant.1 w.if-t-responses.true w.if-above-rank.false)
+        | else-t-responses w ↦ rw (w.above-is, w.found-is) (found_same c.args.s c.requires.sound c.requires.responses_value known l.invariant.1 w.if-t-responses.false)
+      ],
     )
 
 pub returns-then-above-eq0 : goal.returns-then-above-eq0

@@ -1,5 +1,4 @@
 -- The places hold those that outrank the task, and the search over these finds its least fixed point.
-use borrow.Author.Rules.{rules}
 use Rattle.recurrence.proofs.response.Goals as goal
 
 pub climb-requires : goal.climb-requires

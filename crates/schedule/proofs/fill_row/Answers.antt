@@ -8,10 +8,10 @@ use Rattle.schedule.proofs.fill_row.Goals as goal
 pub walk_row-requires : goal.walk_row-requires
 walk_row-requires c =
     let g = c.gather_level-size.ensures in
-    (g.places, rw (← task_at_lem _ c.requires.sound c.args.i c.requires.row_length.0, coming_load g, c.requires.row_length.1) (walkable c.requires.sound c.args.i c.requires.row_length.0 c.requires.period_of_sheet))
+    record { places_fit = g.places; walk_fits = rw (← task_at_lem _ c.requires.sound c.args.i c.requires.row_length.0, coming_load g, c.requires.row_length.1) (walkable _ c.requires.sound c.args.i c.requires.row_length.0 c.requires.period_of_sheet) }
 
 pub returns : goal.returns
 returns c =
     let g = c.gather_level-size.ensures in
     let w = c.walk_row in
-    row_filled c.requires.sound c.args.i c.requires.row_length.0 c.requires.period_of_sheet w.new.1.1.1.1.1.0 w.result (w.auto.1.1.1.1.1.0 ∙ c.requires.row_length.1) (rw (← task_at_lem _ c.requires.sound c.args.i c.requires.row_length.0, coming_load g) at w.ensures)
+    row_filled _ c.requires.sound c.args.i c.requires.row_length.0 c.requires.period_of_sheet w.new.row w.result (w.auto.row ∙ c.requires.row_length.1) (rw (← task_at_lem _ c.requires.sound c.args.i c.requires.row_length.0, coming_load g) at w.ensures)

@@ -69,7 +69,7 @@ loop-i-preserved c =
     let room : l.from + c.args.h / (get_or c.args.s.tasks l.i none).period ≤ length l.table = omega (arith, c.requires.room, l.invariant.1, l.invariant.2.same_length, jobs_within _ c.requires.sound c.args.h l.i c.requires.period_of_sheet known) in (
       omega arith,
       omega (arith, l.invariant.1, jobs_next _ c.requires.sound c.args.h l.i c.requires.period_of_sheet known),
-      rw (add-one l.i) (row_more (tasks_of c.args.s) l.i l.from _ c.args.table.now l.table _ room (r.auto.1.1.1.0 ∙ part_length l.from _ l.table room) l.invariant.2 r.ensures c.noted-found.ensures),
+      rw (add-one l.i) (row_more (tasks_of c.args.s) l.i l.from _ c.args.table.now l.table _ room (r.auto.row ∙ part_length l.from _ l.table room) l.invariant.2 r.ensures c.noted-found.ensures),
     )
 
 pub returns : goal.returns

@@ -11,18 +11,7 @@ use Rattle.schedule.specs.CallLaws.{sizes_no, sizes_given}
 use Rattle.schedule.specs.Conditions.{late_of, Filled}
 use Rattle.schedule.proofs.Endings.{answers_refused, answers_small, answers_late, answers_full}
 use borrow.Author.Rules.{rules}
-use Rattle.schedule.proofs.responses.Goals.{In-Of-2, Start}
 use Rattle.schedule.proofs.responses.Goals as goal
-
-abbrev start : In-Of-2 → Start
-start c = c.before.before.before.before
-
--- H and J are within their limits.
-fits : (c : In-Of-2) → sizes_of (start c).args.s ≡ given c.in-Of.size
-fits c = sym c.before.before.sizes-z.ensures ∙ ap told_size c.in-Of.is
-
-sound : (c : In-Of-2) → Sound (start c).args.s
-sound c = let s = (start c).args.s in judged_sound s (sizes_given s (fits c)).judged_fine
 
 pub returns-in_default : goal.returns-in_default
 returns-in_default c =
@@ -32,33 +21,40 @@ returns-in_default c =
 
 pub returns-then-table-jobs : goal.returns-then-table-jobs
 returns-then-table-jobs c =
-    answers_small _ c.args.table.now (fits c) c.if-table-jobs.true
+    let fits : sizes_of c.args.s ≡ given c.in-Of.size = sym c.sizes-z.ensures ∙ ap told_size c.in-Of.is in
+    answers_small _ c.args.table.now fits c.if-table-jobs.true
 
 pub fill_rows-found-requires : goal.fill_rows-found-requires
 fill_rows-found-requires c =
-    let x = sizes_given _ (fits c) in
-    record { sound = sound c; period_of_sheet = record { is_hyperperiod = x.hyperperiod_is; within_limit = omega (arith, x) }; room = omega (arith, x.jobs_are, c.if-table-jobs.false) }
+    let fits : sizes_of c.args.s ≡ given c.in-Of.size = sym c.sizes-z.ensures ∙ ap told_size c.in-Of.is in
+    let sound : Sound c.args.s = judged_sound c.args.s (sizes_given c.args.s fits).judged_fine in
+    let x = sizes_given _ fits in
+    record { sound = sound; period_of_sheet = record { is_hyperperiod = x.hyperperiod_is; within_limit = omega (arith, x) }; room = omega (arith, x.jobs_are, c.if-table-jobs.false) }
 
 pub clear-requires : goal.clear-requires
 clear-requires c =
     omega (arith, c.fill_rows-found.ensures.same_length, c.if-table-jobs.false)
 
 pub shape_of-table-in_default-found : goal.shape_of-table-in_default-found
-shape_of-table-in_default-found c = c.clear.auto.0 ∙ c.fill_rows-found.auto.1.1.0
+shape_of-table-in_default-found c = c.clear.auto.table ∙ c.fill_rows-found.auto.table
 
 pub returns-in_default-found : goal.returns-in_default-found
 returns-in_default-found c =
+    let fits : sizes_of c.args.s ≡ given c.in-Of.size = sym c.sizes-z.ensures ∙ ap told_size c.in-Of.is in
+    let sound : Sound c.args.s = judged_sound c.args.s (sizes_given c.args.s fits).judged_fine in
     let r = c.fill_rows-found in
     let is = c.in_default-found.is in
     rw (c.clear.ensures, c.found_refusal.ensures ∙ ap late_of is)
-    (answers_late c.args.s c.args.table.now (fits c) (sound c) c.if-table-jobs.false
-    (subst (Filled (tasks_of c.args.s) c.args.s.count (all_jobs (tasks_of c.args.s)) c.args.table.now r.last.1.1.0) is r.ensures))
+    (answers_late c.args.s c.args.table.now fits sound c.if-table-jobs.false
+    (subst (Filled (tasks_of c.args.s) c.args.s.count (all_jobs (tasks_of c.args.s)) c.args.table.now r.new.table) is r.ensures))
 
 pub shape_of-table : goal.shape_of-table
-shape_of-table c = c.fill_rows-found.auto.1.1.0
+shape_of-table c = c.fill_rows-found.auto.table
 
 pub returns : goal.returns
 returns c =
+    let fits : sizes_of c.args.s ≡ given c.in-Of.size = sym c.sizes-z.ensures ∙ ap told_size c.in-Of.is in
+    let sound : Sound c.args.s = judged_sound c.args.s (sizes_given c.args.s fits).judged_fine in
     let r = c.fill_rows-found in
-    answers_full c.args.s c.args.table.now (fits c) (sound c) c.if-table-jobs.false
-    (subst (Filled (tasks_of c.args.s) c.args.s.count (all_jobs (tasks_of c.args.s)) c.args.table.now r.last.1.1.0) c.in-Lowest.is r.ensures)
+    answers_full c.args.s c.args.table.now fits sound c.if-table-jobs.false
+    (subst (Filled (tasks_of c.args.s) c.args.s.count (all_jobs (tasks_of c.args.s)) c.args.table.now r.new.table) c.in-Lowest.is r.ensures)

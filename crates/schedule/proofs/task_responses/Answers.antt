@@ -11,7 +11,7 @@ use borrow.Author.Rules.{rules}
 use Rattle.schedule.proofs.task_responses.Goals as goal
 
 pub shape_of-table-in_default : goal.shape_of-table-in_default
-shape_of-table-in_default c = c.responses-answer.auto.1.0
+shape_of-table-in_default c = c.responses-answer.auto.table
 
 pub returns-in_default : goal.returns-in_default
 returns-in_default c =
@@ -28,7 +28,7 @@ greatest_each-greatest-requires c =
     let g = responses_given s (length old) e in record { sound = judged_sound s g.judged_fine; period_of_sheet = record { is_hyperperiod = g.hyperperiod_is; within_limit = omega (arith, g) }; holds_table = filled_holds s old e r.ensures.1 }
 
 pub shape_of-table : goal.shape_of-table
-shape_of-table c = c.responses-answer.auto.1.0
+shape_of-table c = c.responses-answer.auto.table
 
 pub returns : goal.returns
 returns c =

@@ -141,9 +141,10 @@ def turn(text, old, entry, crate, rel, source):
                     arms.append((canon(step), path, f"{a[0]}.{field}"))
     arms.sort(key=lambda x: -len(x[1]))
 
-    lent = {}
+    lent, takes = {}, {}
     for p in entry["places"]:
         if p[3] and p[2][1]:
+            takes[p[2][1]] = entry["params"].get(p[3], [])
             f = p[3].split("::")[-1]
             for m in re.finditer(r"\bfn " + re.escape(f) + r"\b(?:<[^>]*>)?\(([^{]*?)\)(?: ->|\n| \{)", EVERY.get(p[3].split("::")[0], ""), re.S):
                 lent[p[2][1]] = re.findall(r"(?:^|[(,])\s*(?:mut )?(\w+): &(?:'\w+ )?mut", m.group(1))
@@ -234,6 +235,13 @@ def turn(text, old, entry, crate, rel, source):
     def lent_paths(body):
         for stepname, ls in promised.items():
             body = clause_path(body, stepname + ".ensures", ls)
+        owners = {"c." + n: n for n in takes} | {m.group(1): m.group(2) for m in re.finditer(r"let (\w+) = c\.([\w-]+) in", body) if m.group(2) in takes}
+        for owner, stepname in owners.items():
+            def one(m, names=takes[stepname]):
+                k = m.group(2).count("1")
+                return f"{owner}.{'new' if m.group(1) == 'last' else m.group(1)}.{names[k]}" if k < len(names) else m.group(0)
+            body = re.sub(r"(?<![\w.'-])" + re.escape(owner) + r"\.(auto|last|new)((?:\.1)+)\.0(?![\w.])", one, body)
+            body = re.sub(r"(?<![\w.'-])" + re.escape(owner) + r"\.(auto|last)()\.0(?![\w.])", one, body)
         for stepname, names in lent.items():
             body = re.sub(r"\." + re.escape(stepname) + r"\.new\.(\d)(?!\w)", lambda m: f".{stepname}.new.{names[int(m.group(1))]}" if int(m.group(1)) < len(names) else m.group(0), body)
         return body
@@ -293,6 +301,22 @@ def turn(text, old, entry, crate, rel, source):
         block = re.sub(r"\.pre(?![\w-])", ".requires", clause_path(clause_path(block, "pre", req_labels), "requires", req_labels))
         block = re.sub(r"\.inv(?![\w-])", ".invariant", block)
         block = arm_paths(block)
+        m = re.search(r"\((\w+) : [A-Z][\w-]*\)", block)
+        if m:
+            v = m.group(1)
+            for _ in range(12):
+                was = block
+                for n in placed:
+                    block = re.sub(r"(?<![\w.-])(" + re.escape(n) + r") (\((?:[\w-]+ |\()*" + v + r"(?:\.before)+\)+|" + v + r"(?:\.before)+)", lambda x: x.group(1) + " " + x.group(2).replace(".before", ".\0"), block)
+                for h in helpers:
+                    block = re.sub(r"\(" + re.escape(h) + r" " + v + r"(?:\.before)*\)", v, block)
+                    block = re.sub(r"(?<![\w.-])" + re.escape(h) + r" " + v + r"(?:\.before)*(?![\w'-])(?! :)", v, block)
+                block = re.sub(r"(?<![\w.'-])" + v + r"(?:\.before)+(?![\w-])", v, block)
+                if block == was:
+                    break
+            if ".\0" in block:
+                notes.append("a lemma over a place asks one over a place above it: " + block.split(" :")[0][-30:])
+            block = block.replace(".\0", ".before")
         return re.sub(r"((?:^|[^\w.'-])[\w']+|\.before|\))\.([a-zA-Z][\w-]*)", lambda m: m.group(1) + "." + steps[bare(m.group(2))] if bare(m.group(2)) in steps else m.group(0), block)
 
     req_labels = requires_labels(source, rel.split("/")[-1])[0]
@@ -305,10 +329,6 @@ def turn(text, old, entry, crate, rel, source):
             for inner in re.findall(r"^  (?:abbrev )?([a-zA-Z][\w'-]*) :", code, re.M):
                 placed[inner] = place_of[canon(mm.group(2))]
             b = walked(places_in(b))
-            for h, hb in helpers.items():
-                if re.search(r"(?<![\w.-])" + re.escape(h) + r"(?![\w-])", b) and hb:
-                    lemmas.append(walked(places_in(hb)))
-                    helpers[h] = ""
             lemmas.append(b)
             continue
         m = re.match(r"(?:abbrev )?(?:pub )?([^\s:]+) : (.*)", code, re.S)
@@ -347,8 +367,7 @@ def turn(text, old, entry, crate, rel, source):
                 b = walked(places_in(b))
                 for h, hb in helpers.items():
                     if re.search(r"(?<![\w.-])" + re.escape(h) + r"(?![\w-])", b) and hb:
-                        lemmas.append(walked(places_in(hb)))
-                        helpers[h] = ""
+                        notes.append(f"helper {h} is left in {name}")
             lemmas.append(b)
     # inline arguments
     if spec:

@@ -11,7 +11,7 @@ use Rattle.sheet.specs.Sound.{Sound}
 use Rattle.sheet.specs.Tasks.{lacks, chain_at, chain_of, first_of}
 use Rattle.sheet.specs.TaskLaws.{chain_place, chain_length, chain_most}
 
-module _ {s : Sheet} (sound : Sound s) (number : ℕ) (known : lacks s number ≡ fine) (c : Chain) (is : (c ≡ chain_at s number) × (length c.entries ≡ 16)) where
+module _ (s : Sheet) (sound : Sound s) (number : ℕ) (known : lacks s number ≡ fine) (c : Chain) (is : (c ≡ chain_at s number) × (length c.entries ≡ 16)) where
   pub lent : take c.length c.entries ≡ chain_of s number
   lent = ap (λ (x : Chain). take x.length x.entries) is.0
 

@@ -147,12 +147,12 @@ margin_asked s number room limit h = rw (le-ltb most_limit limit h) (go (named s
 -- ---- where an answer is given
 
 -- A chain on a sheet whose tasks are taken.
-pub sheet_chain : {s : Sheet} → Sound s → Taken (tasks_of s) → (number : ℕ) → lacks s number ≡ fine → TakenChain (tasks_of s) (chain_of s number)
-sheet_chain sound taken number known = record { tasks = taken; known = chain_known _ sound number known; few = chain_most _ sound number known }
+pub sheet_chain : (s : Sheet) → Sound s → Taken (tasks_of s) → (number : ℕ) → lacks s number ≡ fine → TakenChain (tasks_of s) (chain_of s number)
+sheet_chain s sound taken number known = record { tasks = taken; known = chain_known _ sound number known; few = chain_most _ sound number known }
 
 -- The answer of a chain's call is given for such a chain.
 pub filled_chain : (s : Sheet) (number room : ℕ) {totals : Totals} → lacks s number ≡ fine → responses_of s room ≡ given totals → TakenChain (tasks_of s) (chain_of s number)
-filled_chain s number room known e = sheet_chain (judged_sound s (responses_given s room e).judged_fine) (given_taken s room e) number known
+filled_chain s number room known e = sheet_chain _ (judged_sound s (responses_given s room e).judged_fine) (given_taken s room e) number known
 
 -- A table that is filled: what its figures are worked out from.
 pub filled_ready : (s : Sheet) (old : List ℕ) {table : List ℕ} {totals : Totals} → responses_of s (length old) ≡ given totals → table ≡ table_after (responses_of s (length old)) (tasks_of s) old
@@ -178,7 +178,7 @@ pub figures_given : (s : Sheet) (number room : ℕ) {x : Summary} → figures_of
 unfolding figures_of
 figures_given s number room {x} e = subst (FiguresGiven s number room) (cc found.2) (record {
   known = has;
-  limit_most = report_most (judged_sound s fields.0) number has;
+  limit_most = report_most _ (judged_sound s fields.0) number has;
   taken = filled_chain s number room has found.1;
   totals_are = found.1;
   sampling_is = refl;

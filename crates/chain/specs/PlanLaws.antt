@@ -80,10 +80,10 @@ row_within ts i l = sum_grows (jobs ts) (suc i) (length ts) l
 pub row_few : {ts : List Task} → Taken ts → (i : ℕ) → i < length ts → sum i (jobs ts) + jobs ts i ≤ most_jobs
 row_few {ts} taken i l = omega (arith, row_within ts i l, taken.few)
 
-pub planned_more : {s : Sheet} → Sound s → (i : ℕ) → i < s.count → {plan : List ℕ} (from count : ℕ) → Planned (tasks_of s) i plan
+pub planned_more : (s : Sheet) → Sound s → (i : ℕ) → i < s.count → {plan : List ℕ} (from count : ℕ) → Planned (tasks_of s) i plan
     → from ≡ sum i (jobs (tasks_of s)) → count ≡ jobs (tasks_of s) i
     → Planned (tasks_of s) (i + 1) (four plan i (get_or s.tasks i none).period (get_or s.tasks i none).rank from count)
-planned_more {s} sound i known {plan} from count g e q =
+planned_more s sound i known {plan} from count g e q =
     record {
       whole = four_length plan i _ _ _ _ ∙ g.whole;
       periods_are = below_more (λ j. period_in after j ≡ period (tasks_of s) j) i (λ j l. stays (4 * j) (omega arith) ∙ g.periods_are j l) (period_noted plan i _ _ _ _ room ∙ sym (period_at _ sound i known));

@@ -25,13 +25,13 @@ module _ (c : tie.After-count) where
   has = has_one start.pre.0
 
   entries : let chain = one.chain_one.result in take chain.length chain.entries ≡ chain_of start.args.s chain_one
-  entries = lent start.pre.0 chain_one has one.chain_one.result one.chain_one.ensures
+  entries = lent _ start.pre.0 chain_one has one.chain_one.result one.chain_one.ensures
 
 array-share-prefix-chain : tie.Need-array-share-prefix-chain
-array-share-prefix-chain c = let n = c.before in lent_most (start n).requires.0 chain_one (has n) (one n).chain_one.result (one n).chain_one.ensures
+array-share-prefix-chain c = let n = c.before in lent_most _ (start n).requires.0 chain_one (has n) (one n).chain_one.result (one n).chain_one.ensures
 
 slice-aggregate-run-log : tie.Need-slice-aggregate-run-log
-slice-aggregate-run-log c = let n = c.before.before in lent_count (start n).requires.0 chain_one (has n) (one n).chain_one.result (one n).chain_one.ensures
+slice-aggregate-run-log c = let n = c.before.before in lent_count _ (start n).requires.0 chain_one (has n) (one n).chain_one.result (one n).chain_one.ensures
 
 run-log-requires : tie.Need-run-log-requires
 run-log-requires c κs =
@@ -40,7 +40,7 @@ run-log-requires c κs =
     rw (entries n) (
       (plan n).plan_of.ensures.1,
       (
-        chained a.pre.0 (lent_some a.pre.0 chain_one (has n) (one n).chain_one.result (one n).chain_one.ensures),
+        chained a.pre.0 (lent_some _ a.pre.0 chain_one (has n) (one n).chain_one.result (one n).chain_one.ensures),
         (first_known a.pre.0, log_sane a.args.log.now a.args.s.count n.count.result a.pre.1.1 n.count.ensures),
       ),
     )

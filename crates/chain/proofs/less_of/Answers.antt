@@ -9,21 +9,17 @@ use mir.ValLaws.{to_z_pos, to_z-of_z}
 use borrow.Author.Rules.{rules}
 use Rattle.chain.specs.Calls.{less}
 use Rattle.chain.specs.MarginLaws.{less_mag}
-use Rattle.chain.proofs.less_of.Statement.{statement}
-use Rattle.chain.proofs.less_of.Tie as tie
+use Rattle.chain.proofs.less_of.Goals as goal
 
 read_back : (limit figure : ℕ) → limit < 2 ^ 31 → figure < 2 ^ 31 → to_z w32 limit -ℤ to_z w32 figure ≡ less limit figure
 read_back limit figure l f = ap₂ ◌-ℤ◌ (to_z_pos w32 limit l) (to_z_pos w32 figure f)
 
-sub-result : tie.Need-overflow-sub-result
-sub-result c =
+pub overflow_sub-result : goal.overflow_sub-result
+overflow_sub-result c =
     let limit = c.args.limit in
     let figure = c.args.figure in
     subst (SFits w32) (sym (read_back limit figure (omega arith) (omega arith)))
     (record { sfits = less_mag limit figure (2 ^ 31) (omega arith) (omega arith) })
 
-returns : tie.Need-returns
+pub returns : goal.returns
 returns c = to_z-of_z w32 _ (sub-result c) ∙ read_back c.args.limit c.args.figure (omega arith) (omega arith)
-
-pub less_of_spec : {M : Type 1} → statement M
-less_of_spec = tie.close (tie.spec (λ c. search rules) (λ c. search rules) sub-result returns)

@@ -1,0 +1,38 @@
+-- What is left of the word decides, since every byte before passed.
+use mathlib.Core.Path.{◌≡◌, refl, sym, ◌∙◌}
+use Prim.Native.Nat.{◌-◌}
+use native.Mathlib.Omega.{arith}
+use lib.ListN.{length, drop}
+use borrow.Author.Rules.{rules}
+use Rattle.text.specs.Words.{word, every, digit}
+use Rattle.text.specs.WordLaws.{word_none, word_stop, word_on, every_none, every_on, every_not}
+use Rattle.text.proofs.all_digits.Goals as goal
+
+pub loop-i-init : goal.loop-i-init
+loop-i-init c = refl
+
+pub returns-then-ends_word : goal.returns-then-ends_word
+returns-then-ends_word c =
+    let l = c.loop-i in
+    let text = c.args.text.now in
+    sym (l.invariant ∙ every_none digit (word_stop text l.i 0 (omega arith) (sym c.ends_word.ensures ∙ c.if-ends_word.true)))
+
+pub loop-i-preserved : goal.loop-i-preserved
+loop-i-preserved c =
+    let l = c.loop-i in
+    let text = c.args.text.now in
+    l.invariant
+    ∙ every_on digit (word_on text l.i 0 (omega arith) (sym c.ends_word.ensures ∙ c.if-ends_word.false)) (sym c.is_digit.ensures ∙ c.if-is_digit.true)
+
+pub returns-else-is_digit : goal.returns-else-is_digit
+returns-else-is_digit c =
+    let l = c.loop-i in
+    let text = c.args.text.now in
+    sym (l.invariant
+    ∙ every_not digit (word_on text l.i 0 (omega arith) (sym c.ends_word.ensures ∙ c.if-ends_word.false)) (sym c.is_digit.ensures ∙ c.if-is_digit.false))
+
+pub returns : goal.returns
+returns c =
+    let l = c.loop-i in
+    let text = c.args.text.now in
+    sym (l.invariant ∙ every_none digit (word_none text l.i (omega arith)))

@@ -1,0 +1,8 @@
+-- Each part is the definition's.
+use borrow.Author.Rules.{rules}
+use Rattle.text.specs.Grammar.{text_end}
+use Rattle.text.proofs.end_text.Goals as goal
+
+pub returns : goal.returns
+unfolding text_end
+returns c = cc

@@ -1,0 +1,8 @@
+-- Each part is the definition's.
+use borrow.Author.Rules.{rules}
+use Rattle.text.specs.Grammar.{at_key}
+use Rattle.text.proofs.read_key.Goals as goal
+
+pub returns : goal.returns
+unfolding at_key
+returns c = cc

@@ -1,3 +1,2 @@
 pub mod Outcome
-pub mod Computed
 pub mod Nine

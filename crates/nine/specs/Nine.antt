@@ -1,22 +1,12 @@
--- The nine sheets of document 01, as one table under one theorem: sheets 1 to 7, and the refused halves of sheets 8 and 9.
-use Rattle.std.specs.Prelude.{◌≡◌, refl, List, [], ◌∷◌, map, ℕ, length, get_or}
-use Rattle.std.proofs.Common.{◌∙◌}
-use Rattle.arith.specs.Whole.{gcd, lcm, up}
-use Rattle.bits.specs.Bits.{list_of}
+-- The nine sheets of document 01, as one table (its theorem stands in proofs/Nine.antt): sheets 1 to 7, and the refused halves of sheets 8 and 9.
+use Rattle.std.specs.Prelude.{List, [], ◌∷◌, ℕ, length, get_or}
 use Rattle.theory.specs.declared.Task.{Task}
 use Rattle.theory.specs.Model.Schedule.{none}
-use Rattle.arith.specs.Ranges.{sum, maximum, least}
-use Rattle.theory.specs.Model.Responses.{hyperperiod, all_jobs}
-use Rattle.theory.specs.Model.Greatest.{greatest}
-use Rattle.theory.proofs.Analysis.Clearing.{clearing}
-use Rattle.theory.specs.Model.Chain.{sampling, sampling_release, bound}
+use Rattle.theory.specs.Model.Chain.{sampling, bound}
 use Rattle.sheet.specs.declared.Sheet.{Sheet}
 use Rattle.answers.specs.Answers.{Answer, given, refused}
-use Rattle.sheet.specs.Fields.{task_fields, entry_fields, chain_fields, among, in_order}
-use Rattle.sheet.specs.Calls.{places, unused, judge_of}
-use Rattle.sheet.specs.Tasks.{tasks_of}
-use Rattle.nine.specs.Outcome.{Figures, outcome_of}
-use Rattle.nine.specs.Computed.{rows_by, computed_of, outcome_computed}
+use Rattle.sheet.specs.Calls.{places, unused}
+use Rattle.nine.specs.Outcome.{Figures}
 
 -- A task (T, C, rank), and the old sheet in memory with these tasks and this chain.
 abbrev task : ℕ → ℕ → ℕ → Task
@@ -67,13 +57,3 @@ nine_sheets =
 abbrev pub Every : (Sample → Type 0) → List Sample → Type 0
 Every P [] = Unit {0}
 Every P (r ∷ rs) = P r × Every P rs
-
--- One evaluation of all rows, and one law for each of them.
-rows_hold : (rs : List Sample) → map (λ r. computed_of r.on) rs ≡ map (λ r. r.says) rs → Every (λ r. outcome_of r.on ≡ r.says) rs
-rows_hold [] e = tt
-rows_hold (r ∷ rs) e = (outcome_computed r.on ∙ cc, rows_hold rs cc)
-
--- Of each of the nine sheets the definitions say what document 01 says.
-pub nine : Every (λ r. outcome_of r.on ≡ r.says) nine_sheets
-unfolding computed_of judge_of in_order task_fields entry_fields chain_fields among list_of tasks_of hyperperiod lcm gcd all_jobs sum greatest maximum least clearing rows_by sampling sampling_release bound up
-nine = rows_hold nine_sheets refl

@@ -131,7 +131,8 @@ def main():
     for f in texts + files("README.md", "docs/**/*.md", "tests/names"):
         with open(f, encoding="utf-8") as it:
             text = it.read()
-        new = renamed(steps(text, functions) if f.endswith("/Proof.antt") else text, table, f.endswith(".md"))
+        names = {a: b for a, b in table.items() if a not in functions} if f.endswith(".rt") else table
+        new = renamed(steps(text, functions) if f.endswith("/Proof.antt") else text, names, f.endswith(".md"))
         if new != text:
             changed += 1
             with open(f, "w", encoding="utf-8") as it:

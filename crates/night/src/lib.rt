@@ -91,7 +91,7 @@ fn turn_of(plan: &[u32; 48], count: u8, ended: &[u32; 16], at: u32) -> u8
 }
 
 // The job that ran last may go on: it has budget left.
-fn goes_on_lem(plan: &[u32; 48], count: u8, ran: &[u32; 16], last: u8) -> bool
+fn goes_on(plan: &[u32; 48], count: u8, ran: &[u32; 16], last: u8) -> bool
     requires plan_fits { Plan plan.now count }
     requires last_known { (length ran.now ≡ 16) × known count last }
     ensures { result ≡ goes_on (tasks_in plan.now count) (held ran.now) (slot last) }

@@ -465,7 +465,7 @@ def turn(text, old, entry, crate, rel, source):
         eq = "\n".join(l for l in lines if not l.startswith("--") and not l.startswith("unfolding"))
         eq = eq.split("\n", 1)[1]
         m = re.match(re.escape(name) + r"((?: [^\s=]+)*) =(.*)", eq, re.S)
-        params = m.group(1).split()
+        params = [p for p in m.group(1).split() if not re.fullmatch(r"t\d+₀?", p)]
         body = m.group(2)
         want = [("i" if c else "l", v) for v, c in zip(vs, changed)] + [("l", v) for v, c in zip(vs, changed) if c]
         if len(want) != len(params):

@@ -1,7 +1,7 @@
 -- The numbers of refusal: the least and the greatest that an answer may have, those that it has only, and one that it never has, kept by
 -- each way to put judgements together.
 use Rattle.std.specs.Prelude.{◌≡◌, refl, ◌≢◌, Bool, true, false, ℕ, ◌≤◌}
-use Rattle.std.proofs.Common.{sym, subst, ◌∙◌, arith}
+use Rattle.std.proofs.Common.{sym, subst, arith}
 use mathlib.Core.List.{List, [], ◌∷◌}
 use Rattle.answers.specs.Answers.{Answer, given, refused, Judgement, when, with_value, after, also, first}
 use Rattle.answers.specs.AnswerLaws.{refused_given}

@@ -1,5 +1,7 @@
 // What a call answers: a value, or a refusal with document 01's number and, where it has one, its value. Every layer above hands
 // refusals up as they are; how the enums read as document 01's answers is defined in specs/Answers.antt.
+#![tactic(auto)]
+
 ghost use Rattle.answers.specs.Promises.{RefusalOfPromise};
 
 // A number of document 01's table, alone or with a value: 1 to 9 come with the bit at which the judged field begins, 15 with the late task.

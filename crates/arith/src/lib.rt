@@ -1,6 +1,8 @@
 // The numbers behind hyperperiod, next release, quick bound, response of a task and margin: greatest common divisor, least
 // common multiple, next multiple, greatest entry and distance from zero. Each call answers every input, as the predicate of its
 // name in specs/Promises.antt says; callers go by the laws in specs/WholeLaws.antt and specs/RangeLaws.antt.
+#![tactic(auto)]
+
 ghost use Rattle.arith.specs.Promises.{GcdPromise, LcmPromise, UpPromise, GreatestPromise, MagnitudePromise};
 
 // The greatest common divisor of a and b, by Euclid's rule gone round in place. With 0 it is the other number, and of 0 and 0 it is 0.

@@ -1,6 +1,8 @@
 // Bits in bytes, most significant first: a number read from any place, and a number put there, for every input, as the predicates in
 // specs/Promises.antt say. What bits, numbers and bytes have to do with each other is said in specs/Bits.antt; the laws beside it serve
 // every packed format.
+#![tactic(auto)]
+
 ghost use Rattle.std.specs.Prelude.{◌≡◌, ◌-◌, ◌*◌, ◌/◌, ◌^◌, ◌<◌, min, set};
 ghost use Rattle.bits.specs.Bits.{odd, bits, unpack, number};
 ghost use Rattle.bits.specs.Promises.{NumberPromise, PutPromise};

@@ -1,5 +1,5 @@
 -- What the tell-tale says of the sheet: while the clock keeps its sheet, the longest that it shows is within the sampling figure.
-use Rattle.std.specs.Prelude.{◌≡◌, ℕ, ◌+◌, ◌-◌, ◌<◌, ◌≤◌, List, [], ◌∷◌, ◌++◌, map, refl}
+use Rattle.std.specs.Prelude.{◌≡◌, ℕ, ◌-◌, ◌<◌, ◌≤◌, List, [], ◌∷◌, ◌++◌, map, refl}
 use Rattle.std.proofs.Common.{◌∙◌, ap, arith}
 use Rattle.std.proofs.Math.Option.{some, none}
 use Rattle.std.proofs.lemmas.Bool.{lt-leb}

@@ -1,6 +1,8 @@
 // The tell-tale on the clock itself (document 02, P13): the longest delay that the unit has seen, in one small record that is updated where
 // it stands. `begin` and `stamp` are lent the record; what becomes of it is worked out by functions that take it by value. What each call
 // answers and leaves is defined in specs/Calls.antt, and what a run of calls comes to in specs/Runs.antt.
+#![tactic(auto)]
+
 ghost use Rattle.std.specs.Prelude.{◌≡◌, ◌+◌, ◌%◌, ◌^◌, min, max};
 ghost use Rattle.telltale.specs.Promises.{FreshPromise, BeginPromise, StampPromise, ElapsedRefusalPromise};
 

@@ -1,8 +1,7 @@
 -- Each turn keeps the greatest common divisor of the two numbers while the second falls, and with 0 it is the first.
-use mathlib.Core.Path.{◌≡◌, refl, sym, ap, ◌∙◌}
+use mathlib.Core.Path.{refl, sym, ap, ◌∙◌}
 use native.Mathlib.Nat.{mod-lt}
 use native.Mathlib.Omega.{arith}
-use borrow.Author.Rules.{rules}
 use Rattle.arith.specs.Whole.{gcd}
 use Rattle.arith.specs.WholeLaws.{gcd_zero, gcd_step}
 use Rattle.arith.proofs.gcd.Goals as goal

@@ -1,9 +1,5 @@
-use mathlib.Core.Path.{◌≡◌, refl, sym, ap, ◌∙◌}
-use native.Mathlib.Nat.{mod-lt}
-use native.Mathlib.Omega.{arith}
-use borrow.Author.Rules.{rules}
+use mathlib.Core.Path.{◌≡◌}
 use Rattle.arith.specs.Whole.{gcd}
-use Rattle.arith.specs.WholeLaws.{gcd_zero, gcd_step}
 use Rattle.arith.proofs.gcd.Given as goal
 
 abbrev pub invariant-loop-rest : goal.invariant-loop-rest

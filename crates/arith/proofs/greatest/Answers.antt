@@ -1,12 +1,9 @@
 -- The greatest of the entries so far grows entry by entry.
-use mathlib.Core.Path.{◌≡◌, refl, ap, ◌∙◌}
-use mathlib.Core.Logic.{⊎_elim}
-use Prim.Native.Nat.{◌-◌, ◌≤◌}
+use mathlib.Core.Path.{refl, ap, ◌∙◌}
 use native.Mathlib.Numerals.{add-one}
 use native.Mathlib.Omega.{arith}
 use lib.ListN.{length, get_or}
 use Rattle.arith.specs.Ranges.{maximum}
-use borrow.Author.Rules.{rules}
 use Rattle.arith.proofs.greatest.Goals as goal
 use Rattle.arith.proofs.greatest.Goals.{then-most-row, else-most-row}
 
@@ -19,8 +16,8 @@ unfolding maximum
 loop-k-preserved c =
     let l = c.loop-k in
     elim c.if-most-row.branch [
-      then-most-row w ↦ (omega arith, rw add-one (omega (arith, w, l.invariant.1)))
-    | else-most-row w ↦ (omega arith, rw add-one (omega (arith, w, l.invariant.1)))
+      | then-most-row w ↦ (omega arith, rw add-one (omega (arith, w, l.invariant.1)))
+      | else-most-row w ↦ (omega arith, rw add-one (omega (arith, w, l.invariant.1)))
     ]
 
 pub returns : goal.returns

@@ -1,11 +1,7 @@
-use mathlib.Core.Path.{◌≡◌, refl, ap, ◌∙◌}
-use mathlib.Core.Logic.{⊎_elim}
+use mathlib.Core.Path.{◌≡◌}
 use Prim.Native.Nat.{◌-◌, ◌≤◌}
-use native.Mathlib.Numerals.{add-one}
-use native.Mathlib.Omega.{arith}
 use lib.ListN.{length, get_or}
 use Rattle.arith.specs.Ranges.{maximum}
-use borrow.Author.Rules.{rules}
 use Rattle.arith.proofs.greatest.Given as goal
 
 abbrev pub invariant-loop-k : goal.invariant-loop-k

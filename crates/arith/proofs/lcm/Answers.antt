@@ -6,7 +6,6 @@ use native.Mathlib.Omega.{arith}
 use Rattle.arith.specs.Whole.{lcm}
 use Rattle.arith.specs.WholeLaws.{gcd_pos, lcm_zero}
 use Rattle.arith.specs.Limit.{within_fits, within_over}
-use borrow.Author.Rules.{rules}
 use Rattle.arith.proofs.lcm.Goals as goal
 
 pub returns-then-a-eq0 : goal.returns-then-a-eq0

@@ -1,10 +1,6 @@
-use mathlib.Core.Path.{◌≡◌, refl, ap, ap₂, ◌∙◌, sym}
-use Prim.Native.Nat.{ℕ, ◌+◌, ◌-◌, ◌*◌, ◌/◌, ◌≤◌}
-use native.Mathlib.Omega.{arith}
-use lib.Pow.{pow_mono}
-use borrow.Author.Rules.{rules}
+use mathlib.Core.Path.{◌≡◌}
+use Prim.Native.Nat.{◌-◌, ◌*◌, ◌/◌, ◌≤◌}
 use Rattle.bits.specs.Bits.{unpack, number}
-use Rattle.bits.specs.Laws.{number_lt, number_append}
 use Rattle.bits.proofs.around.Given as goal
 
 abbrev pub invariant-loop-k : goal.invariant-loop-k

@@ -1,7 +1,6 @@
 -- A byte is the number of its bits, and past the last byte there is none.
 use mathlib.Core.Path.{sym, ◌∙◌}
 use native.Mathlib.Omega.{arith}
-use borrow.Author.Rules.{rules}
 use Rattle.bits.specs.Bytes.{byte_number, byte_past}
 use Rattle.bits.proofs.byte.Goals as goal
 

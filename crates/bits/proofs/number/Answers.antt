@@ -4,7 +4,6 @@ use Prim.Native.Nat.{ℕ, ◌+◌, ◌-◌, ◌*◌, ◌/◌, ◌%◌, ◌^◌}
 use native.Mathlib.Nat.{mod-lt}
 use native.Mathlib.Omega.{arith}
 use lib.Pow.{pow_pos, pow_mono}
-use borrow.Author.Rules.{rules}
 use Rattle.bits.specs.Bits.{unpack, number}
 use Rattle.bits.specs.Laws.{number_within}
 use Rattle.bits.proofs.number.Goals as goal

@@ -2,7 +2,7 @@
 use mathlib.Core.Path.{◌≡◌, refl, sym, ap, ap₂, ◌∙◌}
 use mathlib.Core.Bool.{Bool}
 use mathlib.Core.List.{List}
-use Prim.Native.Nat.{ℕ, suc, ◌+◌, ◌-◌, ◌/◌, ◌%◌, ◌^◌, ◌≤◌, ◌<◌, min}
+use Prim.Native.Nat.{ℕ, suc, ◌+◌, ◌-◌, ◌/◌, ◌%◌, ◌^◌, ◌<◌}
 use native.Mathlib.Nat.{mod-mod}
 use lib.Dec.{eqb}
 use native.Mathlib.Omega.{arith}
@@ -10,7 +10,6 @@ use lib.ListN.{length, set, length-set}
 use lib.Seq.{sets}
 use Rattle.bits.specs.Bits.{odd, bits, unpack}
 use Rattle.bits.specs.Bytes.{length_unpack}
-use borrow.Author.Rules.{rules}
 use Rattle.bits.proofs.put.Goals as goal
 
 -- one more bit put

@@ -1,15 +1,8 @@
-use mathlib.Core.Path.{◌≡◌, refl, sym, ap, ap₂, ◌∙◌}
-use mathlib.Core.Bool.{Bool}
-use mathlib.Core.List.{List}
-use Prim.Native.Nat.{ℕ, suc, ◌+◌, ◌-◌, ◌/◌, ◌%◌, ◌^◌, ◌≤◌, ◌<◌, min}
-use native.Mathlib.Nat.{mod-mod}
-use lib.Dec.{eqb}
-use native.Mathlib.Omega.{arith}
-use lib.ListN.{length, set, length-set}
+use mathlib.Core.Path.{◌≡◌}
+use Prim.Native.Nat.{◌+◌, ◌-◌, ◌≤◌, min}
+use lib.ListN.{length}
 use lib.Seq.{sets}
-use Rattle.bits.specs.Bits.{odd, bits, unpack}
-use Rattle.bits.specs.Bytes.{length_unpack}
-use borrow.Author.Rules.{rules}
+use Rattle.bits.specs.Bits.{bits, unpack}
 use Rattle.bits.proofs.put.Given as goal
 
 abbrev pub invariant-loop-k : goal.invariant-loop-k

@@ -6,7 +6,6 @@ use lib.ListN.{get_or, set}
 use lib.Seq.{set_out}
 use Rattle.bits.specs.Bits.{odd, bits, unpack}
 use Rattle.bits.specs.Bytes.{length_unpack, unpack_set}
-use borrow.Author.Rules.{rules}
 use Rattle.bits.proofs.put_bit.Goals as goal
 
 pub returns-then-i-out : goal.returns-then-i-out

@@ -1,7 +1,6 @@
 -- A shift of 1 by less than 64 is a power of two that fits.
 use lib.Pow.{pow_mono}
 use native.Mathlib.Omega.{arith}
-use borrow.Author.Rules.{rules}
 use Rattle.bits.proofs.weight.Goals as goal
 
 pub returns : goal.returns

@@ -6,13 +6,8 @@ use native.Mathlib.Nat.{mod-eq_of_lt, mod-le, mul-le-mul_right, div-mul-le_self,
 use native.Mathlib.Omega.{arith}
 use lib.ListN.{get_or, set, length-set}
 use lib.Pow.{pow_pos, pow_mono}
-use borrow.Author.Rules.{rules}
 use Rattle.bits.specs.Bits.{one, odd, bits, number}
 use Rattle.bits.specs.Laws.{one_odd, length_bits, get_d_bits, number_lt, number_set, number_bits, bits_of_number}
-use Rattle.bits.proofs.with_bit.Reads as reads
-use Rattle.bits.proofs.with_bit.Lts as lts
-use Rattle.bits.proofs.weight.Reads as weight-reads
-use Rattle.bits.proofs.wide.Reads as wide-reads
 use Rattle.bits.proofs.with_bit.Goals.{After-wide-v}
 use Rattle.bits.proofs.with_bit.Goals as goal
 

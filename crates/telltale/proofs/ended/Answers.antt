@@ -1,5 +1,5 @@
 -- Each of the three ways out is a case of the definition; the elapsed time, the longer delay and the count come from the helpers.
-use Rattle.std.proofs.Common.{◌≡◌, ℕ, ◌+◌, ◌<◌, min, max, true, false, [], sym, refl, ap, ◌∙◌, arith, rules}
+use Rattle.std.proofs.Common.{◌≡◌, ℕ, ◌+◌, ◌<◌, min, max, true, false, [], sym, refl, ap, ◌∙◌, arith}
 use borrow.Author.Tests.{not-true, not-false}
 use Rattle.answers.specs.declared.Refusal.TheVariants.{Number}
 use Rattle.answers.specs.Answers.{given, refused}

@@ -9,7 +9,7 @@ use Rattle.std.proofs.lemmas.Bool.{lt-leb}
 use Rattle.arith.specs.Ranges.{sum}
 use Rattle.arith.specs.RangeLaws.{sum_eq, sum_longer}
 use Rattle.theory.specs.declared.Task.{Task}
-use Rattle.theory.specs.Model.Schedule.{none, period, rank, Proper, released}
+use Rattle.theory.specs.Model.Schedule.{none, rank, Proper, released}
 use Rattle.theory.specs.Model.Responses.{full, response, task_response}
 use Rattle.theory.proofs.Analysis.Level.{level, cond_zero}
 use Rattle.theory.proofs.Analysis.Backlog.{load, drain}

@@ -18,7 +18,7 @@ use Rattle.theory.specs.Model.Schedule.{period, rank, Proper, Demands, need, due
 use Rattle.theory.specs.Model.Chain.{outranks}
 use Rattle.theory.specs.Model.Recurrence.{Costs, quotient, claim, fixed_point}
 use Rattle.theory.proofs.Analysis.Work.{due_jobs}
-use Rattle.theory.proofs.Analysis.Level.{level, cond_le, level_zero, level_add, level_le, level_own}
+use Rattle.theory.proofs.Analysis.Level.{cond_le, level_zero, level_add, level_le, level_own}
 use Rattle.theory.proofs.Analysis.Backlog.{load, backlog, level_due, backlog_start, backlog_step}
 
 -- The quotient

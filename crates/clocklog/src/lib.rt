@@ -1,6 +1,8 @@
 // The clock's log of starts and finishes: how many records it has, each of them, and whether it is a log, for a sheet of so many tasks.
 // Its format, the times of its records and its refusals are said in specs/Format.antt; that what is written is read back, and that times
 // across the rollover are the true ones, is proved in specs/RoundTrip.antt and specs/Rollover.antt.
+#![tactic(auto)]
+
 mod answer;
 
 ghost use Rattle.std.specs.Prelude.{◌≡◌, ◌-◌, ◌*◌, ◌<◌, ◌≤◌, length};

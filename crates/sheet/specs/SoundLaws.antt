@@ -1,5 +1,5 @@
 -- A sheet that is judged fine has the numbers that are allowed, and so they fit their fields.
-use Rattle.std.specs.Prelude.{◌≡◌, refl, ◌≢◌, Bool, true, false, cond, ℕ, zero, suc, ◌-◌, ◌^◌, ◌≤◌, ◌<◌, ltb, leb, eqb}
+use Rattle.std.specs.Prelude.{◌≡◌, refl, ◌≢◌, Bool, true, false, cond, ℕ, zero, suc, ◌^◌, ◌≤◌, ◌<◌, ltb, leb, eqb}
 use Rattle.std.proofs.Common.{sym, ap, ◌∙◌, arith, ltb-false, leb-false, eqb-true}
 use Rattle.std.proofs.Math.Decide.{dec_lt}
 use Rattle.std.proofs.lemmas.Bool.{eqb-false}

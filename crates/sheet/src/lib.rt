@@ -1,6 +1,8 @@
 // The timing sheet of both editions: read from bytes, judged in memory, written to bytes, and converted. Its format is one list of
 // fields, each with a width, a value and a judgement (specs/Fields.antt); what the calls answer is said over that list
 // (specs/Calls.antt), and that writing and reading are inverse is proved of it (specs/RoundTrip.antt).
+#![tactic(auto)]
+
 ghost use Rattle.std.specs.Prelude.{◌≡◌, true, cond, ◌+◌, ◌-◌, ◌*◌, ◌<◌, ◌≤◌, min, eqb};
 ghost use Rattle.std.proofs.lemmas.List.Edits.{sets};
 ghost use Rattle.bits.specs.Bits.{unpack, number};

@@ -1,5 +1,5 @@
 -- Twelve bits fit.
-use Rattle.std.proofs.Common.{arith, rules}
+use Rattle.std.proofs.Common.{arith}
 use Rattle.bits.specs.Bits.{unpack}
 use Rattle.bits.specs.Laws.{number_lt}
 use Rattle.clocklog.proofs.count.Goals as goal

@@ -1,5 +1,5 @@
 -- The bits behind the record's index and kind are its counter.
-use Rattle.std.proofs.Common.{◌+◌, ap, ◌∙◌, rules}
+use Rattle.std.proofs.Common.{◌+◌, ap, ◌∙◌}
 use Rattle.bits.specs.Bits.{unpack, number}
 use Rattle.clocklog.proofs.counter_at.Goals as goal
 

@@ -1,5 +1,5 @@
 -- Before the first record stands the origin, before another the record before it.
-use Rattle.std.proofs.Common.{suc, ◌-◌, sym, ap, ◌∙◌, arith, rules}
+use Rattle.std.proofs.Common.{suc, ◌-◌, sym, ap, ◌∙◌, arith}
 use Rattle.clocklog.specs.Format.{before}
 use Rattle.clocklog.proofs.counter_before.Goals as goal
 

@@ -1,5 +1,5 @@
 -- The record's fields stand one behind the other.
-use Rattle.std.proofs.Common.{◌+◌, ap, ◌∙◌, arith, rules}
+use Rattle.std.proofs.Common.{◌+◌, ap, ◌∙◌, arith}
 use Rattle.bits.specs.Bits.{unpack, number}
 use Rattle.bits.specs.Laws.{number_lt}
 use Rattle.clocklog.proofs.entry.Goals as goal

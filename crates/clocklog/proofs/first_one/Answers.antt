@@ -1,6 +1,6 @@
 -- Every bit that was passed is 0, so what is left decides.
-use Rattle.std.proofs.Common.{◌≡◌, suc, ◌+◌, ◌-◌, ◌≤◌, sym, refl, ap, ◌∙◌, arith, rules}
-use Rattle.bits.specs.Bits.{unpack, number}
+use Rattle.std.proofs.Common.{suc, ◌+◌, ◌-◌, sym, refl, ap, ◌∙◌, arith}
+use Rattle.bits.specs.Bits.{unpack}
 use Rattle.sheet.specs.Calls.{first_one}
 use Rattle.sheet.specs.TailLaws.{bit_one, bit_zero, first_one_here, first_one_past, first_one_end}
 use Rattle.clocklog.proofs.first_one.Goals as goal

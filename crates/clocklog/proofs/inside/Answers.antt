@@ -1,5 +1,5 @@
 -- The test is by whole bytes, the definition's by bits.
-use Rattle.std.proofs.Common.{◌+◌, ◌*◌, sym, ap, arith, rules, le-ltb, lt-ltb}
+use Rattle.std.proofs.Common.{◌+◌, ◌*◌, sym, ap, arith, le-ltb, lt-ltb}
 use Rattle.answers.specs.Answers.{when, with_value}
 use Rattle.clocklog.proofs.inside.Goals as goal
 

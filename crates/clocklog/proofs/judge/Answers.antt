@@ -1,5 +1,5 @@
 -- The head, the records and what follows them, one after the other.
-use Rattle.std.proofs.Common.{refl, ap, ◌∙◌, rules}
+use Rattle.std.proofs.Common.{refl, ap, ◌∙◌}
 use Rattle.sheet.specs.Calls.{tail_of}
 use Rattle.clocklog.proofs.Judging.{handed_up, goes_on_lem, log_parts}
 use Rattle.clocklog.proofs.judge.Goals as goal

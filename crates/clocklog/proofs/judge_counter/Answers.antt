@@ -1,6 +1,5 @@
 -- The field is whole or refused, and then the difference and the time so far are below the limit or refused.
 use Rattle.clocklog.proofs.Judging.{handed_up, goes_on_lem, long_gap, long_time, short_time}
-use Rattle.std.proofs.Common.{rules}
 use Rattle.clocklog.proofs.judge_counter.Goals as goal
 
 pub returns-in_default : goal.returns-in_default

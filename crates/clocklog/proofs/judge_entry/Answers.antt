@@ -1,6 +1,5 @@
 -- The three fields one after the other.
 use Rattle.clocklog.proofs.Judging.{handed_up, goes_on_lem}
-use Rattle.std.proofs.Common.{rules}
 use Rattle.clocklog.proofs.judge_entry.Goals as goal
 
 pub returns-in_default : goal.returns-in_default

@@ -1,5 +1,5 @@
 -- The field is whole or refused, and then the task is one of the sheet's or refused.
-use Rattle.std.proofs.Common.{sym, ap, rules, le-leb}
+use Rattle.std.proofs.Common.{sym, ap, le-leb}
 use borrow.Author.Tests.{lt-leb}
 use Rattle.answers.specs.Answers.{when}
 use Rattle.clocklog.proofs.Judging.{handed_up, goes_on_lem}

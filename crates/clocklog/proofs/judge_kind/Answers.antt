@@ -1,5 +1,5 @@
 -- The field is whole or refused, and then the kind is the one expected or refused.
-use Rattle.std.proofs.Common.{not, sym, ap, rules, eq-eqb, ne_eqb}
+use Rattle.std.proofs.Common.{not, sym, ap, eq-eqb, ne_eqb}
 use Rattle.answers.specs.Answers.{when}
 use Rattle.clocklog.proofs.Judging.{handed_up, goes_on_lem}
 use Rattle.clocklog.proofs.judge_kind.Goals as goal

@@ -1,9 +1,9 @@
 -- Each turn judges one record more, and what is expected of each task and the time so far are those of the records before.
-use Rattle.std.proofs.Common.{◌+◌, ◌-◌, arith, rules}
+use Rattle.std.proofs.Common.{◌+◌, arith}
 use Rattle.bits.specs.Bits.{unpack}
 use Rattle.bits.specs.Laws.{number_lt}
 use Rattle.clocklog.specs.Format.{begin}
-use Rattle.clocklog.proofs.Judging.{Judged, judged_none, entry_judged_lem, judged_no, judged_time, judged_next, judged_all}
+use Rattle.clocklog.proofs.Judging.{judged_none, entry_judged_lem, judged_no, judged_time, judged_next, judged_all}
 use Rattle.clocklog.proofs.judge_records.Goals as goal
 
 pub loop-r-init : goal.loop-r-init

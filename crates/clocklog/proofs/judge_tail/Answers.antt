@@ -1,5 +1,5 @@
 -- The two tests are the definition's, and where no bit is wrong the first wrong one is that of the next byte.
-use Rattle.std.proofs.Common.{ℕ, ◌+◌, ◌-◌, ◌*◌, ◌/◌, [], ◌∷◌, sym, ap, ◌∙◌, arith, rules}
+use Rattle.std.proofs.Common.{ℕ, ◌+◌, ◌-◌, ◌*◌, ◌/◌, [], ◌∷◌, sym, ap, ◌∙◌, arith}
 use Rattle.bits.specs.Bits.{unpack}
 use Rattle.answers.specs.Answers.{refused}
 use Rattle.sheet.specs.TailLaws.{first_one_most, tail_wrong, tail_longer, tail_fine}

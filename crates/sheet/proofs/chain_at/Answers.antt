@@ -1,12 +1,10 @@
 -- Each part is read where the one before it ends.
 use mathlib.Core.Path.{ap, ◌∙◌}
-use Prim.Native.Nat.{◌+◌, ◌-◌, ◌*◌, min}
+use Prim.Native.Nat.{◌+◌, ◌*◌, min}
 use native.Mathlib.Omega.{arith}
 use Rattle.bits.specs.Bits.{unpack, number}
 use Rattle.bits.specs.Laws.{number_lt}
-use Rattle.sheet.specs.Fields.{width}
 use Rattle.sheet.specs.Calls.{places}
-use borrow.Author.Rules.{rules}
 use Rattle.sheet.proofs.chain_at.Goals as goal
 
 pub overflow_cast-length : goal.overflow_cast-length

@@ -1,10 +1,8 @@
 -- The two arms are the definition's.
 use mathlib.Core.Path.{sym, ap}
-use Prim.Native.Nat.{◌-◌}
 use native.Mathlib.Omega.{arith}
 use Rattle.sheet.specs.Order.{chain_bits}
 use Rattle.sheet.specs.StepLaws.{old_edition, new_edition}
-use borrow.Author.Rules.{rules}
 use Rattle.sheet.proofs.chain_bits.Goals as goal
 
 pub returns-then-s-eq1 : goal.returns-then-s-eq1

@@ -1,6 +1,5 @@
 -- An old sheet has one, and a new one as many as it says.
 use borrow.Author.Tests.{eq-eqb, ne_eqb}
-use borrow.Author.Rules.{rules}
 use Rattle.sheet.proofs.chain_count.Goals as goal
 
 pub returns-then-s-eq1 : goal.returns-then-s-eq1

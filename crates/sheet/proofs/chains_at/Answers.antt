@@ -1,16 +1,14 @@
 -- After c turns the first c places are taken, and the next chain begins where the last ended.
-use mathlib.Core.Path.{◌≡◌, refl, ap, ap₂, ◌∙◌}
-use Prim.Native.Nat.{ℕ, ◌+◌, ◌-◌, ◌*◌, ◌≤◌, min}
+use mathlib.Core.Path.{refl, ap, ap₂, ◌∙◌}
+use Prim.Native.Nat.{ℕ, min}
 use native.Mathlib.Omega.{arith}
-use lib.ListN.{length, set}
+use lib.ListN.{set}
 use Rattle.bits.specs.Bits.{unpack, list_of}
 use Rattle.sheet.specs.declared.Chain.{Chain}
-use Rattle.sheet.specs.Fields.{chains, width}
 use Rattle.sheet.specs.Calls.{places, unused, chain_from}
 use Rattle.sheet.specs.PlaceLaws.{places_set, places_most}
-use Rattle.sheet.specs.Order.{chain_spelt, begins, next}
+use Rattle.sheet.specs.Order.{chain_spelt}
 use Rattle.sheet.specs.StepLaws.{chain_from_step}
-use borrow.Author.Rules.{rules}
 use Rattle.sheet.proofs.chains_at.Goals as goal
 
 pub loop-c-init : goal.loop-c-init

@@ -1,15 +1,8 @@
-use mathlib.Core.Path.{◌≡◌, refl, ap, ap₂, ◌∙◌}
-use Prim.Native.Nat.{ℕ, ◌+◌, ◌-◌, ◌*◌, ◌≤◌, min}
-use native.Mathlib.Omega.{arith}
-use lib.ListN.{length, set}
-use Rattle.bits.specs.Bits.{unpack, list_of}
-use Rattle.sheet.specs.declared.Chain.{Chain}
-use Rattle.sheet.specs.Fields.{chains, width}
+use mathlib.Core.Path.{◌≡◌}
+use Prim.Native.Nat.{◌+◌, ◌-◌, ◌*◌, ◌≤◌, min}
+use Rattle.bits.specs.Bits.{unpack}
 use Rattle.sheet.specs.Calls.{places, unused, chain_from}
-use Rattle.sheet.specs.PlaceLaws.{places_set, places_most}
-use Rattle.sheet.specs.Order.{chain_spelt, begins, next}
-use Rattle.sheet.specs.StepLaws.{chain_from_step}
-use borrow.Author.Rules.{rules}
+use Rattle.sheet.specs.Order.{chain_spelt}
 use Rattle.sheet.proofs.chains_at.Given as goal
 
 abbrev pub invariant-loop-c : goal.invariant-loop-c

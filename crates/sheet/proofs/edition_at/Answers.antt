@@ -1,12 +1,10 @@
 -- The two arms are the definition's.
 use mathlib.Core.Path.{sym, ap, ◌∙◌}
 use mathlib.Core.Bool.{cond}
-use Prim.Native.Nat.{◌-◌}
 use native.Mathlib.Omega.{arith}
 use borrow.Author.Tests.{eq-eqb, ne_eqb}
 use Rattle.bits.specs.Bits.{unpack, number}
 use Rattle.bits.specs.Laws.{number_lt}
-use borrow.Author.Rules.{rules}
 use Rattle.sheet.proofs.edition_at.Goals as goal
 
 pub returns-then-spelt-eq1 : goal.returns-then-spelt-eq1

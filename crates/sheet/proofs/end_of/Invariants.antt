@@ -1,12 +1,6 @@
-use mathlib.Core.Path.{◌≡◌, ap, ◌∙◌}
-use Prim.Native.Nat.{ℕ, ◌+◌, ◌-◌, ◌*◌, ◌≤◌}
-use native.Mathlib.Omega.{arith}
-use Rattle.bits.specs.Bits.{bits}
-use Rattle.sheet.specs.SameLaws.{chains_few}
+use mathlib.Core.Path.{◌≡◌}
+use Prim.Native.Nat.{◌+◌, ◌-◌, ◌*◌, ◌≤◌}
 use Rattle.sheet.specs.Fields.{kind_of, chains, fields, chain_fields, widths, value}
-use Rattle.sheet.specs.Order.{begins, next}
-use Rattle.sheet.specs.StepLaws.{end_from, chain_widths, no_chains_lem, chain_bits_small}
-use borrow.Author.Rules.{rules}
 use Rattle.sheet.proofs.end_of.Given as goal
 
 abbrev pub invariant-loop-c : goal.invariant-loop-c

@@ -1,13 +1,12 @@
 -- After i turns the first i places are taken, and the next entry begins so many entries further on.
-use mathlib.Core.Path.{◌≡◌, refl, ap, ap₂, ◌∙◌}
-use Prim.Native.Nat.{ℕ, ◌+◌, ◌-◌, ◌*◌, ◌≤◌, min}
+use mathlib.Core.Path.{refl, ap, ap₂, ◌∙◌}
+use Prim.Native.Nat.{ℕ, ◌+◌, ◌*◌, min}
 use native.Mathlib.Omega.{arith}
 use lib.ListN.{set}
 use Rattle.bits.specs.Bits.{unpack, number, list_of}
 use Rattle.bits.specs.Laws.{number_lt}
 use Rattle.sheet.specs.Calls.{places}
 use Rattle.sheet.specs.PlaceLaws.{places_set, places_most}
-use borrow.Author.Rules.{rules}
 use Rattle.sheet.proofs.entries_at.Goals as goal
 
 pub loop-i-init : goal.loop-i-init

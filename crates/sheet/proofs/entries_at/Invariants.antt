@@ -1,12 +1,7 @@
-use mathlib.Core.Path.{◌≡◌, refl, ap, ap₂, ◌∙◌}
-use Prim.Native.Nat.{ℕ, ◌+◌, ◌-◌, ◌*◌, ◌≤◌, min}
-use native.Mathlib.Omega.{arith}
-use lib.ListN.{set}
-use Rattle.bits.specs.Bits.{unpack, number, list_of}
-use Rattle.bits.specs.Laws.{number_lt}
+use mathlib.Core.Path.{◌≡◌}
+use Prim.Native.Nat.{◌+◌, ◌-◌, ◌*◌, ◌≤◌, min}
+use Rattle.bits.specs.Bits.{unpack, number}
 use Rattle.sheet.specs.Calls.{places}
-use Rattle.sheet.specs.PlaceLaws.{places_set, places_most}
-use borrow.Author.Rules.{rules}
 use Rattle.sheet.proofs.entries_at.Given as goal
 
 abbrev pub invariant-loop-i : goal.invariant-loop-i

@@ -1,12 +1,11 @@
 -- The two arms are the definition's.
 use mathlib.Core.Path.{sym, ap, ◌∙◌}
 use mathlib.Core.Bool.{cond}
-use Prim.Native.Nat.{◌+◌, ◌-◌}
+use Prim.Native.Nat.{◌+◌}
 use native.Mathlib.Omega.{arith}
 use borrow.Author.Tests.{lt-ltb, le-ltb}
 use Rattle.sheet.specs.declared.Field.TheVariants.{Entry}
 use Rattle.sheet.specs.Order.{kind_by, chain_opening}
-use borrow.Author.Rules.{rules}
 use Rattle.sheet.proofs.entry_opening.Goals as goal
 
 pub returns-then-i-entries : goal.returns-then-i-entries

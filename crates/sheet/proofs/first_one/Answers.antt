@@ -1,11 +1,10 @@
 -- Every bit that was passed is 0, so what is left decides.
-use mathlib.Core.Path.{◌≡◌, refl, sym, ap, ◌∙◌}
-use Prim.Native.Nat.{suc, ◌+◌, ◌-◌, ◌≤◌}
+use mathlib.Core.Path.{refl, sym, ap, ◌∙◌}
+use Prim.Native.Nat.{suc, ◌+◌, ◌-◌}
 use native.Mathlib.Omega.{arith}
-use Rattle.bits.specs.Bits.{unpack, number}
+use Rattle.bits.specs.Bits.{unpack}
 use Rattle.sheet.specs.Calls.{first_one}
 use Rattle.sheet.specs.TailLaws.{bit_one, bit_zero, first_one_here, first_one_past, first_one_end}
-use borrow.Author.Rules.{rules}
 use Rattle.sheet.proofs.first_one.Goals as goal
 
 pub loop-k-init : goal.loop-k-init

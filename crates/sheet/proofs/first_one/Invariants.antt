@@ -1,10 +1,7 @@
-use mathlib.Core.Path.{◌≡◌, refl, sym, ap, ◌∙◌}
-use Prim.Native.Nat.{suc, ◌+◌, ◌-◌, ◌≤◌}
-use native.Mathlib.Omega.{arith}
-use Rattle.bits.specs.Bits.{unpack, number}
+use mathlib.Core.Path.{◌≡◌}
+use Prim.Native.Nat.{◌-◌, ◌≤◌}
+use Rattle.bits.specs.Bits.{unpack}
 use Rattle.sheet.specs.Calls.{first_one}
-use Rattle.sheet.specs.TailLaws.{bit_one, bit_zero, first_one_here, first_one_past, first_one_end}
-use borrow.Author.Rules.{rules}
 use Rattle.sheet.proofs.first_one.Given as goal
 
 abbrev pub invariant-loop-k : goal.invariant-loop-k

@@ -1,12 +1,10 @@
 -- From the nearest one back: none that was passed holds the value, so what is left decides.
-use mathlib.Core.Path.{◌≡◌, sym, ap, ◌∙◌}
-use Prim.Native.Nat.{◌-◌, ◌≤◌}
+use mathlib.Core.Path.{sym, ap, ◌∙◌}
 use native.Mathlib.Omega.{arith}
 use Rattle.answers.specs.Answers.{when}
 use Rattle.sheet.specs.Fields.{among}
 use Rattle.sheet.specs.Order.{nth}
 use Rattle.sheet.specs.FieldLaws.{among_here, among_past, among_none}
-use borrow.Author.Rules.{rules}
 use Rattle.sheet.proofs.fresh.Goals as goal
 
 pub loop-j-init : goal.loop-j-init

@@ -4,7 +4,6 @@ use borrow.Author.Tests.{eq-eqb, ne_eqb}
 use Rattle.sheet.specs.declared.Field.TheVariants.{Limit}
 use Rattle.sheet.specs.Fields.{value}
 use Rattle.sheet.specs.Conversions.{old_limit}
-use borrow.Author.Rules.{rules}
 use Rattle.sheet.proofs.goes_back.Goals as goal
 
 pub returns-then-s-ne1 : goal.returns-then-s-ne1

@@ -5,7 +5,6 @@ use Rattle.sheet.specs.Fields.{fields, value}
 use Rattle.sheet.specs.Calls.{judge_of}
 use Rattle.sheet.specs.SizeLaws.{ends_by}
 use Rattle.sheet.specs.InOrderLaws.{roomy}
-use borrow.Author.Rules.{rules}
 use Rattle.sheet.proofs.judge.Goals as goal
 
 pub returns : goal.returns

@@ -5,7 +5,6 @@ use borrow.Author.Tests.{le-leb, lt-leb}
 use Rattle.answers.specs.Answers.{when, also}
 use Rattle.sheet.specs.Fields.{among}
 use Rattle.sheet.specs.Order.{nth}
-use borrow.Author.Rules.{rules}
 use Rattle.sheet.proofs.judge_entry.Goals as goal
 
 pub returns-then-count-entry_of : goal.returns-then-count-entry_of

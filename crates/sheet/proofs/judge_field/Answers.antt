@@ -3,7 +3,6 @@ use mathlib.Core.Path.{sym, ap, ap₂, ◌∙◌}
 use Rattle.answers.specs.Answers.{when}
 use Rattle.sheet.specs.Fields.{outside}
 use Rattle.sheet.specs.Order.{judged_by}
-use borrow.Author.Rules.{rules}
 use Rattle.sheet.proofs.judge_field.Goals as goal
 
 pub returns-in-Mark : goal.returns-in-Mark

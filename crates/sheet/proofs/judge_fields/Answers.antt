@@ -1,20 +1,17 @@
 -- The fields that are left decide what all of them would, and the next begins where the last ended.
-use mathlib.Core.Path.{◌≡◌, refl, sym, ap, ap₂, ◌∙◌, subst}
-use mathlib.Core.List.{List}
-use Prim.Native.Nat.{ℕ, ◌+◌, ◌-◌, ◌*◌, ◌≤◌}
+use mathlib.Core.Path.{refl, sym, ap, ap₂, ◌∙◌, subst}
+use Prim.Native.Nat.{ℕ, ◌+◌, ◌*◌}
 use native.Mathlib.Omega.{arith}
 use lib.ListN.{get_or}
 use Rattle.theory.specs.Model.Schedule.{none}
 use Rattle.answers.specs.Answers.{also, told}
 use Rattle.answers.specs.AnswerLaws.{also_no, also_fine}
-use Rattle.sheet.specs.declared.Field.{Field}
-use Rattle.sheet.specs.Fields.{kind_of, entries, fields, width, widths, idle, value, with_offset, in_order}
+use Rattle.sheet.specs.Fields.{kind_of, entries, fields, width, idle, value, with_offset, in_order}
 use Rattle.sheet.specs.Calls.{judged_in}
 use Rattle.sheet.specs.Order.{next, after, judged_by}
 use Rattle.sheet.specs.InOrderLaws.{in_order_step, in_order_none, judged_short, judged_whole_lem}
 use Rattle.sheet.specs.FieldLaws.{width_small}
 use Rattle.sheet.specs.StepLaws.{Left, left_all, left_none, left_step, left_placed, judged_around}
-use borrow.Author.Rules.{rules}
 use Rattle.sheet.proofs.judge_fields.Goals as goal
 
 pub loop-at-init : goal.loop-at-init

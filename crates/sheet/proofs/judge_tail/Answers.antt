@@ -6,7 +6,6 @@ use native.Mathlib.Omega.{arith}
 use Rattle.bits.specs.Bits.{unpack}
 use Rattle.answers.specs.Answers.{refused}
 use Rattle.sheet.specs.TailLaws.{first_one_most, tail_wrong, tail_longer, tail_fine}
-use borrow.Author.Rules.{rules}
 use Rattle.sheet.proofs.judge_tail.Goals as goal
 
 pub returns-then-wrong-surplus : goal.returns-then-wrong-surplus

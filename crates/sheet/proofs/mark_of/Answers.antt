@@ -1,7 +1,6 @@
 -- The two arms are the definition's.
 use mathlib.Core.Path.{sym, ap}
 use mathlib.Core.Bool.{cond}
-use Prim.Native.Nat.{◌-◌}
 use native.Mathlib.Omega.{arith}
 use lib.Dec.{eqb}
 use borrow.Author.Tests.{ne_eqb}

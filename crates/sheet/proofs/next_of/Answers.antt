@@ -1,9 +1,7 @@
 -- The arms are the definition's.
 use mathlib.Core.Path.{sym, ap, ◌∙◌}
-use Prim.Native.Nat.{◌-◌}
 use native.Mathlib.Omega.{arith}
 use Rattle.sheet.specs.Order.{kind_by, next, task_in, chain_in, entry_in}
-use borrow.Author.Rules.{rules}
 use Rattle.sheet.proofs.next_of.Goals as goal
 
 pub overflow_add-i : goal.overflow_add-i

@@ -5,7 +5,6 @@ use native.Mathlib.Omega.{arith}
 use borrow.Author.Tests.{eq-eqb, ne_eqb}
 use Rattle.answers.specs.Answers.{when}
 use Rattle.sheet.specs.Fields.{outside}
-use borrow.Author.Rules.{rules}
 use Rattle.sheet.proofs.numbered.Goals as goal
 
 pub returns-then-s-eq1 : goal.returns-then-s-eq1

@@ -1,11 +1,9 @@
 -- The two arms are the definition's.
 use mathlib.Core.Path.{ap}
-use Prim.Native.Nat.{◌-◌}
 use native.Mathlib.Omega.{arith}
 use Rattle.sheet.specs.Fields.{value}
 use Rattle.sheet.specs.Order.{begins}
 use Rattle.sheet.specs.StepLaws.{old_edition, new_edition}
-use borrow.Author.Rules.{rules}
 use Rattle.sheet.proofs.opening_end.Goals as goal
 
 pub returns-then-s-eq1 : goal.returns-then-s-eq1

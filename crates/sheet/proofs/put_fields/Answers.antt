@@ -1,7 +1,6 @@
 -- Putting the fields that are left gives what putting them all at the start would have given.
 use mathlib.Core.Path.{◌≡◌, refl, sym, ap, ap₂, ◌∙◌, subst}
-use mathlib.Core.List.{List}
-use Prim.Native.Nat.{ℕ, ◌+◌, ◌-◌, ◌≤◌, min}
+use Prim.Native.Nat.{ℕ, ◌+◌, min}
 use native.Mathlib.Omega.{arith}
 use lib.ListN.{length}
 use lib.Seq.{sets, length-sets}
@@ -9,14 +8,12 @@ use Rattle.bits.specs.Bits.{bits, unpack}
 use Rattle.bits.specs.Laws.{length_bits}
 use Rattle.bits.specs.Lists.{sets_append}
 use Rattle.bits.specs.Bytes.{length_unpack}
-use Rattle.sheet.specs.declared.Field.{Field}
-use Rattle.sheet.specs.Fields.{kind_of, entries, fields, width, widths, value}
-use Rattle.sheet.specs.Calls.{bits_of, packed}
+use Rattle.sheet.specs.Fields.{kind_of, entries, fields, width, value}
+use Rattle.sheet.specs.Calls.{bits_of}
 use Rattle.sheet.specs.Order.{next, after}
 use Rattle.sheet.specs.FormatLaws.{bits_step, bits_none}
 use Rattle.sheet.specs.FieldLaws.{width_small}
 use Rattle.sheet.specs.StepLaws.{Left, left_all, left_none, left_step, left_placed}
-use borrow.Author.Rules.{rules}
 use Rattle.sheet.proofs.put_fields.Goals as goal
 
 pub loop-at-init : goal.loop-at-init

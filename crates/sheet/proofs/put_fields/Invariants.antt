@@ -1,21 +1,13 @@
-use mathlib.Core.Path.{◌≡◌, refl, sym, ap, ap₂, ◌∙◌, subst}
+use mathlib.Core.Path.{◌≡◌}
 use mathlib.Core.List.{List}
-use Prim.Native.Nat.{ℕ, ◌+◌, ◌-◌, ◌≤◌, min}
-use native.Mathlib.Omega.{arith}
+use Prim.Native.Nat.{◌-◌, ◌≤◌}
 use lib.ListN.{length}
-use lib.Seq.{sets, length-sets}
-use Rattle.bits.specs.Bits.{bits, unpack}
-use Rattle.bits.specs.Laws.{length_bits}
-use Rattle.bits.specs.Lists.{sets_append}
-use Rattle.bits.specs.Bytes.{length_unpack}
+use lib.Seq.{sets}
+use Rattle.bits.specs.Bits.{unpack}
 use Rattle.sheet.specs.declared.Field.{Field}
-use Rattle.sheet.specs.Fields.{kind_of, entries, fields, width, widths, value}
+use Rattle.sheet.specs.Fields.{fields, widths, value}
 use Rattle.sheet.specs.Calls.{bits_of, packed}
-use Rattle.sheet.specs.Order.{next, after}
-use Rattle.sheet.specs.FormatLaws.{bits_step, bits_none}
-use Rattle.sheet.specs.FieldLaws.{width_small}
-use Rattle.sheet.specs.StepLaws.{Left, left_all, left_none, left_step, left_placed}
-use borrow.Author.Rules.{rules}
+use Rattle.sheet.specs.StepLaws.{Left}
 use Rattle.sheet.proofs.put_fields.Given as goal
 
 abbrev pub invariant-loop-at : goal.invariant-loop-at

@@ -1,9 +1,9 @@
 -- After k turns the first k places are taken; past the sixteenth there is no task and no place.
 use mathlib.Core.Path.{◌≡◌, refl, sym, ap, ◌∙◌, fun_ext}
-use Prim.Native.Nat.{ℕ, ◌-◌, ◌≤◌, ◌<◌}
+use Prim.Native.Nat.{ℕ, ◌<◌}
 use native.Mathlib.Omega.{arith}
 use native.Mathlib.Decide.{dec_lt}
-use lib.ListN.{length, set, length-map, get_or-eq_default}
+use lib.ListN.{length, set, get_or-eq_default}
 use Rattle.bits.specs.Bits.{list_of}
 use Rattle.theory.specs.Model.Schedule.{none}
 use Rattle.sheet.specs.declared.Sheet.{Sheet}
@@ -12,7 +12,6 @@ use Rattle.sheet.specs.Fields.{value}
 use Rattle.sheet.specs.Order.{nth}
 use Rattle.sheet.specs.Calls.{places}
 use Rattle.sheet.specs.PlaceLaws.{length_places, places_set, places_taken}
-use borrow.Author.Rules.{rules}
 use Rattle.sheet.proofs.ranks_of.Goals as goal
 
 pub loop-k-init : goal.loop-k-init

@@ -1,17 +1,8 @@
-use mathlib.Core.Path.{◌≡◌, refl, sym, ap, ◌∙◌, fun_ext}
-use Prim.Native.Nat.{ℕ, ◌-◌, ◌≤◌, ◌<◌}
-use native.Mathlib.Omega.{arith}
-use native.Mathlib.Decide.{dec_lt}
-use lib.ListN.{length, set, length-map, get_or-eq_default}
-use Rattle.bits.specs.Bits.{list_of}
-use Rattle.theory.specs.Model.Schedule.{none}
-use Rattle.sheet.specs.declared.Sheet.{Sheet}
+use mathlib.Core.Path.{◌≡◌}
+use Prim.Native.Nat.{◌-◌, ◌≤◌}
 use Rattle.sheet.specs.declared.Field.TheVariants.{Rank}
 use Rattle.sheet.specs.Fields.{value}
-use Rattle.sheet.specs.Order.{nth}
 use Rattle.sheet.specs.Calls.{places}
-use Rattle.sheet.specs.PlaceLaws.{length_places, places_set, places_taken}
-use borrow.Author.Rules.{rules}
 use Rattle.sheet.proofs.ranks_of.Given as goal
 
 abbrev pub invariant-loop-k : goal.invariant-loop-k

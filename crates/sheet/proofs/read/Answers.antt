@@ -4,7 +4,6 @@ use Rattle.answers.specs.Answers.{given, also}
 use Rattle.answers.specs.AnswerLaws.{also_no, also_fine}
 use Rattle.sheet.specs.Calls.{tail_of, end_of, read_as, read_of}
 use Rattle.sheet.specs.AnswerLaws.{refused_answer, given_answer}
-use borrow.Author.Rules.{rules}
 use Rattle.sheet.proofs.read.Goals as goal
 
 pub returns-in_default : goal.returns-in_default

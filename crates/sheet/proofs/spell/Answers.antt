@@ -7,7 +7,6 @@ use Rattle.bits.specs.Bits.{unpack, number}
 use Rattle.sheet.specs.Fields.{old, new}
 use Rattle.sheet.specs.Calls.{spelt}
 use Rattle.sheet.specs.Order.{sheet_spelt}
-use borrow.Author.Rules.{rules}
 use Rattle.sheet.proofs.spell.Goals as goal
 
 pub returns-then-number-eq31 : goal.returns-then-number-eq31

@@ -8,7 +8,6 @@ use Rattle.theory.specs.Model.Schedule.{none}
 use Rattle.sheet.specs.SameLaws.{sheet_is}
 use Rattle.sheet.specs.Calls.{places, unused, chain_from}
 use Rattle.sheet.specs.Order.{task_at, chain_spelt}
-use borrow.Author.Rules.{rules}
 use Rattle.sheet.proofs.spell_old.Goals as goal
 
 pub overflow_cast-count : goal.overflow_cast-count

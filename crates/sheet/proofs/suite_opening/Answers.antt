@@ -1,6 +1,5 @@
 -- The two arms are the definition's.
 use mathlib.Core.Path.{sym, ap}
-use Prim.Native.Nat.{◌-◌}
 use native.Mathlib.Omega.{arith}
 use Rattle.sheet.specs.Order.{suite_opening}
 use Rattle.sheet.specs.StepLaws.{old_edition, new_edition}

@@ -4,7 +4,6 @@ use Prim.Native.Nat.{◌+◌}
 use native.Mathlib.Omega.{arith}
 use Rattle.bits.specs.Bits.{unpack, number}
 use Rattle.bits.specs.Laws.{number_lt}
-use borrow.Author.Rules.{rules}
 use Rattle.sheet.proofs.task_at.Goals as goal
 
 pub overflow_cast-rank : goal.overflow_cast-rank

@@ -1,12 +1,10 @@
 -- The two arms are the definition's.
 use mathlib.Core.Path.{sym, ap, ◌∙◌}
 use mathlib.Core.Bool.{cond}
-use Prim.Native.Nat.{◌-◌}
 use native.Mathlib.Omega.{arith}
 use borrow.Author.Tests.{lt-ltb, le-ltb}
 use Rattle.sheet.specs.declared.Field.TheVariants.{Period}
 use Rattle.sheet.specs.Order.{kind_by, suite_opening}
-use borrow.Author.Rules.{rules}
 use Rattle.sheet.proofs.task_opening.Goals as goal
 
 pub returns-then-i-tasks : goal.returns-then-i-tasks

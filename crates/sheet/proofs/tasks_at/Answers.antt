@@ -1,6 +1,6 @@
 -- After i turns the first i places are taken, and the next task begins so many tasks further on.
-use mathlib.Core.Path.{◌≡◌, refl, ap, ap₂, ◌∙◌}
-use Prim.Native.Nat.{ℕ, ◌+◌, ◌-◌, ◌*◌, ◌≤◌, min}
+use mathlib.Core.Path.{refl, ap, ap₂, ◌∙◌}
+use Prim.Native.Nat.{ℕ, ◌+◌, ◌*◌, min}
 use native.Mathlib.Omega.{arith}
 use lib.ListN.{set}
 use Rattle.bits.specs.Bits.{unpack, list_of}
@@ -9,7 +9,6 @@ use Rattle.theory.specs.Model.Schedule.{none}
 use Rattle.sheet.specs.Calls.{places, task_bits}
 use Rattle.sheet.specs.Order.{task_at}
 use Rattle.sheet.specs.PlaceLaws.{places_set, places_most}
-use borrow.Author.Rules.{rules}
 use Rattle.sheet.proofs.tasks_at.Goals as goal
 
 pub loop-i-init : goal.loop-i-init

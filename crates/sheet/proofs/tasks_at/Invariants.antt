@@ -1,14 +1,9 @@
-use mathlib.Core.Path.{◌≡◌, refl, ap, ap₂, ◌∙◌}
-use Prim.Native.Nat.{ℕ, ◌+◌, ◌-◌, ◌*◌, ◌≤◌, min}
-use native.Mathlib.Omega.{arith}
-use lib.ListN.{set}
-use Rattle.bits.specs.Bits.{unpack, list_of}
-use Rattle.theory.specs.declared.Task.{Task}
+use mathlib.Core.Path.{◌≡◌}
+use Prim.Native.Nat.{◌+◌, ◌-◌, ◌*◌, ◌≤◌, min}
+use Rattle.bits.specs.Bits.{unpack}
 use Rattle.theory.specs.Model.Schedule.{none}
 use Rattle.sheet.specs.Calls.{places, task_bits}
 use Rattle.sheet.specs.Order.{task_at}
-use Rattle.sheet.specs.PlaceLaws.{places_set, places_most}
-use borrow.Author.Rules.{rules}
 use Rattle.sheet.proofs.tasks_at.Given as goal
 
 abbrev pub invariant-loop-i : goal.invariant-loop-i

@@ -9,7 +9,6 @@ use Rattle.answers.specs.AnswerLaws.{also_no, also_fine}
 use Rattle.sheet.specs.declared.Sheet.{Sheet}
 use Rattle.sheet.specs.Conversions.{first, stays, to_first}
 use Rattle.sheet.specs.AnswerLaws.{refused_answer, given_answer}
-use borrow.Author.Rules.{rules}
 use Rattle.sheet.proofs.to_first.Goals as goal
 
 -- what is answered to a sheet that is not old, and to any after its fields are judged

@@ -8,7 +8,6 @@ use Rattle.answers.specs.Answers.{given}
 use Rattle.answers.specs.AnswerLaws.{also_no, also_fine}
 use Rattle.sheet.specs.Conversions.{second, to_second}
 use Rattle.sheet.specs.AnswerLaws.{refused_answer, given_answer}
-use borrow.Author.Rules.{rules}
 use Rattle.sheet.proofs.to_second.Goals as goal
 
 pub returns-in_default : goal.returns-in_default

@@ -3,7 +3,6 @@ use mathlib.Core.Path.{sym, ap, ◌∙◌}
 use native.Mathlib.Omega.{arith}
 use Rattle.sheet.specs.Fields.{value}
 use Rattle.sheet.specs.Order.{task_in, chain_in}
-use borrow.Author.Rules.{rules}
 use Rattle.sheet.proofs.value_of.Goals as goal
 
 pub offset_bounds-s-k : goal.offset_bounds-s-k

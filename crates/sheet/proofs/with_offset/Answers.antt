@@ -3,7 +3,6 @@ use mathlib.Core.Path.{sym, ap, ◌∙◌}
 use Rattle.answers.specs.declared.Verdict.TheVariants.{No}
 use Rattle.answers.specs.Answers.{told}
 use Rattle.sheet.specs.Fields.{with_offset}
-use borrow.Author.Rules.{rules}
 use Rattle.sheet.proofs.with_offset.Goals as goal
 
 pub returns-in-Number : goal.returns-in-Number

@@ -16,7 +16,6 @@ use Rattle.answers.specs.Answers.{Answer, given, when, also, refusal}
 use Rattle.answers.specs.AnswerLaws.{also_no, also_fine, refusal_is}
 use Rattle.sheet.specs.EncodedLaws.{length_packed}
 use Rattle.sheet.specs.Calls.{packed, end_of, size_of, write_of}
-use borrow.Author.Rules.{rules}
 use Rattle.sheet.proofs.write.Goals as goal
 
 -- what is answered after the fields are judged

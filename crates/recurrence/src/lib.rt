@@ -1,6 +1,8 @@
 // The response of a task by a recurrence, with no schedule and no table, and the quick bound of a chain from this alone, or the first
 // refusal; so the hyperperiod has no limit here. What is answered is defined in specs/Calls.antt, what that says of every schedule
 // in specs/Results.antt.
+#![tactic(auto)]
+
 mod answer;
 
 ghost use Rattle.std.specs.Prelude.{◌≡◌, ◌≤◌, ◌<◌, length, replicate};

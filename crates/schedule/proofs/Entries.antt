@@ -1,7 +1,7 @@
 -- Lists that are filled from the front: zeros, and rows one after the other.
 use mathlib.Core.Path.{◌≡◌, sym, ap, ap₂, ◌∙◌}
 use mathlib.Core.List.{List, ◌++◌}
-use Prim.Native.Nat.{ℕ, zero, suc, ◌+◌, ◌-◌, ◌≤◌, ◌<◌}
+use Prim.Native.Nat.{ℕ, suc, ◌+◌, ◌-◌, ◌≤◌, ◌<◌}
 use native.Mathlib.Numerals.{add-one}
 use native.Mathlib.Omega.{arith}
 use lib.ListN.{length, set, take, drop, replicate, length-drop, length-replicate, replicate-append-replicate}
@@ -10,7 +10,7 @@ use borrow.Rule.Slice.PartMut.{put_mid, post_of, drop_put, same_len_mid}
 use Rattle.theory.specs.declared.Task.{Task}
 use Rattle.schedule.specs.declared.answer.Row.{Row}
 use Rattle.schedule.specs.declared.answer.Found.{Found}
-use Rattle.schedule.specs.Calls.{row, rows}
+use Rattle.schedule.specs.Calls.{rows}
 use Rattle.schedule.specs.Conditions.{RowFilled, FoundTo, Filled}
 use Rattle.schedule.proofs.Notes.{none_late_before}
 

@@ -3,8 +3,8 @@ use Rattle.std.specs.Prelude.{◌≡◌, List, true, false, cond, ℕ, suc, ◌+
 use Rattle.arith.specs.Whole.{up}
 use Rattle.theory.specs.declared.Task.{Task}
 use Rattle.arith.specs.Ranges.{sum}
-use Rattle.theory.specs.Model.Schedule.{none, period, budget, rank, idle, busy}
-use Rattle.theory.specs.Model.Responses.{full, hyperperiod, jobs}
+use Rattle.theory.specs.Model.Schedule.{period, budget, rank, idle, busy}
+use Rattle.theory.specs.Model.Responses.{full, hyperperiod}
 use Rattle.theory.proofs.Analysis.Level.{level}
 use Rattle.theory.proofs.Analysis.Backlog.{load, drain}
 use Rattle.theory.proofs.Analysis.Finish.{FirstZero}

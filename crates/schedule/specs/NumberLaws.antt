@@ -2,7 +2,6 @@
 use Rattle.std.specs.Prelude.{ℕ, ltb, length}
 use Rattle.std.proofs.Common.{arith}
 use Rattle.theory.specs.Model.Responses.{hyperperiod, all_jobs}
-use Rattle.answers.specs.Answers.{refusal}
 use Rattle.answers.specs.NumberLaws.{Numbered, given_numbered, numbered_wider, when_numbered, after_numbered, also_numbered, Never, given_only, when_only, also_only}
 use Rattle.sheet.specs.declared.Sheet.{Sheet}
 use Rattle.sheet.specs.NumberLaws.{judge_never, judge_numbered}

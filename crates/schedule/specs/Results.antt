@@ -6,7 +6,7 @@ use borrow.Author.Tests.{ltb-false}
 use Rattle.arith.specs.Ranges.{sum}
 use Rattle.theory.specs.declared.Task.{Task}
 use Rattle.theory.specs.Model.Schedule.{Slot, idle, busy, period, budget, done}
-use Rattle.theory.specs.Model.Responses.{hyperperiod, all_jobs, idle_ticks, Accepted, full_budget, jobs}
+use Rattle.theory.specs.Model.Responses.{hyperperiod, all_jobs, idle_ticks, Accepted, full_budget}
 use Rattle.theory.proofs.Analysis.Idle.{runs_exactly, idle_adds_up}
 use Rattle.answers.specs.Answers.{Answer, given, refused, fine, when, after, also}
 use Rattle.answers.specs.AnswerLaws.{when_fine, also_given}
@@ -19,7 +19,7 @@ use Rattle.sheet.specs.TaskLaws.{tasks_length, task_allowed, sound_proper}
 use Rattle.sheet.specs.LatenessLaws.{lateness_fine}
 use Rattle.schedule.specs.declared.answer.Totals.{Totals}
 use Rattle.schedule.specs.declared.answer.Size.{Size}
-use Rattle.schedule.specs.Calls.{most_ticks, most_jobs, late_greatest, sizes_of, responses_of, rows}
+use Rattle.schedule.specs.Calls.{most_ticks, most_jobs, late_greatest, sizes_of, responses_of}
 use Rattle.schedule.specs.Taken.{Taken}
 use Rattle.schedule.specs.Lateness.{GreatestLate, idle_accepted, busy_greatest, accepted_idle, greatest_busy}
 use Rattle.schedule.specs.NumberLaws.{sizes_never_15}

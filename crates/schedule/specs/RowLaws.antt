@@ -11,7 +11,7 @@ use Rattle.arith.specs.RangeLaws.{sum_grows}
 use Rattle.bits.specs.Lists.{length_list_of, get_d_list_of}
 use Rattle.theory.specs.declared.Task.{Task}
 use Rattle.theory.specs.Model.Responses.{all_jobs, response, jobs}
-use Rattle.answers.specs.Answers.{given, after}
+use Rattle.answers.specs.Answers.{given}
 use Rattle.sheet.specs.declared.Sheet.{Sheet}
 use Rattle.sheet.specs.Tasks.{tasks_of}
 use Rattle.schedule.specs.declared.answer.Totals.{Totals}

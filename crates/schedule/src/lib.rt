@@ -2,6 +2,8 @@
 // or the first refusal. One task's row comes from a walk over the releases of its level, which is the task and those that outrank
 // it, with one number of state: the tick by which the level's work is done. What is answered and left in the table is defined in
 // specs/Calls.antt.
+#![tactic(auto)]
+
 mod answer;
 
 ghost use Rattle.std.specs.Prelude.{◌≡◌, ◌++◌, suc, ◌≤◌, ◌<◌, length, drop, replicate};

@@ -3,9 +3,7 @@ use native.Mathlib.Omega.{arith}
 use Rattle.schedule.proofs.Entries.{zero_more}
 use mathlib.Core.Path.{◌≡◌, refl, ap, ◌∙◌, subst}
 use mathlib.Core.List.{◌++◌}
-use Prim.Native.Nat.{◌-◌, ◌≤◌}
-use lib.ListN.{length, set, replicate, drop, length-set}
-use borrow.Author.Rules.{rules}
+use lib.ListN.{set, replicate, drop, length-set}
 use Rattle.schedule.proofs.clear.Goals as goal
 
 pub loop-k-init : goal.loop-k-init

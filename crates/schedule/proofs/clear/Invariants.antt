@@ -1,10 +1,7 @@
-use native.Mathlib.Omega.{arith}
-use Rattle.schedule.proofs.Entries.{zero_more}
-use mathlib.Core.Path.{◌≡◌, refl, ap, ◌∙◌, subst}
+use mathlib.Core.Path.{◌≡◌}
 use mathlib.Core.List.{◌++◌}
 use Prim.Native.Nat.{◌-◌, ◌≤◌}
-use lib.ListN.{length, set, replicate, drop, length-set}
-use borrow.Author.Rules.{rules}
+use lib.ListN.{length, replicate, drop}
 use Rattle.schedule.proofs.clear.Given as goal
 
 abbrev pub invariant-loop-k : goal.invariant-loop-k

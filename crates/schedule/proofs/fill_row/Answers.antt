@@ -2,7 +2,6 @@
 use mathlib.Core.Path.{◌∙◌}
 use Rattle.sheet.specs.TaskLaws.{task_at_lem}
 use Rattle.schedule.proofs.Backlogs.{coming_load, walkable, row_filled}
-use borrow.Author.Rules.{rules}
 use Rattle.schedule.proofs.fill_row.Goals as goal
 
 pub walk_row-requires : goal.walk_row-requires

@@ -1,11 +1,10 @@
 -- Row by row the part of the table that belongs to the task is lent to its walk, straight after the rows before it.
-use native.Mathlib.Nat.{div-le_self}
 use Rattle.theory.specs.Model.Greatest.{greatest}
 use Rattle.sheet.specs.Tasks.{tasks_of}
 use Rattle.sheet.specs.TaskLaws.{jobs_at}
 use Rattle.schedule.specs.Calls.{rows}
 use mathlib.Core.Path.{◌≡◌, refl, sym, ap, ◌∙◌, subst}
-use Prim.Native.Nat.{◌+◌, ◌-◌, ◌/◌, ◌≤◌, ◌<◌}
+use Prim.Native.Nat.{◌+◌, ◌/◌, ◌≤◌, ◌<◌}
 use native.Mathlib.Numerals.{add-one}
 use native.Mathlib.Omega.{arith}
 use lib.ListN.{length, get_or}
@@ -15,7 +14,6 @@ use Rattle.theory.specs.Model.Responses.{jobs, all_jobs}
 use Rattle.schedule.specs.Conditions.{Filled}
 use Rattle.schedule.proofs.Tasks.{jobs_next, jobs_most, jobs_within, all_jobs_lem}
 use Rattle.schedule.proofs.Entries.{part_length, row_more}
-use borrow.Author.Rules.{rules}
 use Rattle.schedule.proofs.fill_rows.Goals as goal
 
 pub loop-i-init : goal.loop-i-init

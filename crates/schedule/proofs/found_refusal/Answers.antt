@@ -2,7 +2,6 @@
 use mathlib.Core.Path.{sym, ap, ◌∙◌}
 use Rattle.answers.specs.declared.Refusal.TheVariants.{With}
 use Rattle.schedule.specs.Conditions.{late_of}
-use borrow.Author.Rules.{rules}
 use Rattle.schedule.proofs.found_refusal.Goals as goal
 
 pub returns : goal.returns

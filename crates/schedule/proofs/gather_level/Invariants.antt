@@ -1,10 +1,5 @@
-use mathlib.Core.Path.{◌≡◌, subst}
-use mathlib.Core.Logic.{⊎_elim}
-use native.Mathlib.Omega.{arith}
-use Prim.Native.Nat.{◌-◌, ◌<◌}
-use Rattle.sheet.specs.TaskLaws.{place_allowed}
-use Rattle.schedule.proofs.Tasks.{GatheredTo, gather_start, gather_level_lem, gather_in, gather_with, gather_out}
-use borrow.Author.Rules.{rules}
+use Prim.Native.Nat.{◌-◌}
+use Rattle.schedule.proofs.Tasks.{GatheredTo}
 use Rattle.schedule.proofs.gather_level.Given as goal
 
 abbrev pub invariant-loop-j : goal.invariant-loop-j

@@ -2,7 +2,6 @@
 use mathlib.Core.Path.{◌≡◌, refl, sym, ap, ap₂, ◌∙◌}
 use mathlib.Core.List.{List}
 use Prim.Native.Nat.{ℕ, ◌+◌, ◌-◌, ◌≤◌, ◌<◌}
-use native.Mathlib.Nat.{div-le_self}
 use native.Mathlib.Omega.{arith}
 use lib.ListN.{length, get_or, take, drop, set}
 use lib.Seq.{get_or-take, get_or-drop}
@@ -10,7 +9,6 @@ use Rattle.bits.specs.Bits.{list_of}
 use Rattle.arith.specs.Ranges.{sum, maximum}
 use Rattle.arith.specs.RangeLaws.{maximum_eq}
 use Rattle.theory.specs.declared.Task.{Task}
-use Rattle.theory.specs.Model.Schedule.{none}
 use Rattle.theory.specs.Model.Responses.{response, jobs, task_response}
 use Rattle.sheet.specs.Calls.{places}
 use Rattle.sheet.specs.PlaceLaws.{places_set}
@@ -19,7 +17,6 @@ use Rattle.sheet.specs.TaskLaws.{jobs_at, tasks_length}
 use Rattle.schedule.specs.Taken.{Holds}
 use Rattle.schedule.proofs.Entries.{part_length}
 use Rattle.schedule.proofs.Tasks.{jobs_next, jobs_most, jobs_within}
-use borrow.Author.Rules.{rules}
 use Rattle.schedule.proofs.greatest_each.Goals as goal
 
 -- the greatest entry of the part that is a task's row

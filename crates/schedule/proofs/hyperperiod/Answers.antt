@@ -3,13 +3,12 @@ use mathlib.Core.Option.{some}
 use Rattle.arith.specs.Limit.{told_is, told_over, within_fits, within_over}
 use native.Mathlib.Omega.{arith}
 use mathlib.Core.Path.{◌≡◌, sym, ap, ◌∙◌}
-use Prim.Native.Nat.{◌-◌, ◌≤◌}
+use Prim.Native.Nat.{◌-◌}
 use lib.ListN.{drop}
 use Rattle.theory.specs.Model.Responses.{hyperperiod}
 use Rattle.sheet.specs.Tasks.{tasks_of}
 use Rattle.schedule.specs.Calls.{most_ticks}
 use Rattle.schedule.proofs.Tasks.{multiple_start, multiple_step, multiple_most}
-use borrow.Author.Rules.{rules}
 use Rattle.schedule.proofs.hyperperiod.Goals as goal
 
 pub loop-i-init : goal.loop-i-init

@@ -1,12 +1,11 @@
 -- Task by task H/T is added.
 use native.Mathlib.Omega.{arith}
 use mathlib.Core.Path.{◌≡◌, refl, sym, ap, ◌∙◌}
-use Prim.Native.Nat.{◌+◌, ◌-◌, ◌≤◌}
+use Prim.Native.Nat.{◌+◌}
 use Rattle.arith.specs.Ranges.{sum}
 use Rattle.theory.specs.Model.Responses.{jobs as jobsOf}
 use Rattle.sheet.specs.Tasks.{tasks_of}
 use Rattle.schedule.proofs.Tasks.{jobs_next, jobs_most, all_jobs_lem}
-use borrow.Author.Rules.{rules}
 use Rattle.schedule.proofs.job_count.Goals as goal
 
 pub loop-i-init : goal.loop-i-init

@@ -5,7 +5,6 @@ use native.Mathlib.Omega.{arith}
 use Rattle.sheet.specs.Tasks.{tasks_of}
 use Rattle.schedule.specs.Conditions.{Noted, FoundTo}
 use Rattle.schedule.proofs.Notes.{late_first, late_greater, late_kept, on_time_late, on_time_lowest, on_time_kept}
-use borrow.Author.Rules.{rules}
 use Rattle.schedule.proofs.noted.Goals as goal
 
 pub bounds-s-worst : goal.bounds-s-worst

@@ -1,8 +1,6 @@
 -- The first place that is found to hold the period is answered, or all were looked at.
 use native.Mathlib.Omega.{arith}
 use native.Mathlib.Nat.{le_refl}
-use Prim.Native.Nat.{◌-◌, ◌≤◌}
-use borrow.Author.Rules.{rules}
 use Rattle.schedule.proofs.period_place.Goals as goal
 
 pub returns-then-periods-p : goal.returns-then-periods-p

@@ -1,7 +1,4 @@
-use native.Mathlib.Omega.{arith}
-use native.Mathlib.Nat.{le_refl}
 use Prim.Native.Nat.{◌-◌, ◌≤◌}
-use borrow.Author.Rules.{rules}
 use Rattle.schedule.proofs.period_place.Given as goal
 
 abbrev pub invariant-loop-p : goal.invariant-loop-p

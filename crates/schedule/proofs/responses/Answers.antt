@@ -2,7 +2,7 @@
 use Rattle.theory.specs.Model.Responses.{all_jobs}
 use mathlib.Core.Path.{◌≡◌, sym, ap, ◌∙◌, subst}
 use native.Mathlib.Omega.{arith}
-use Rattle.answers.specs.Answers.{given, refusal}
+use Rattle.answers.specs.Answers.{given}
 use Rattle.sheet.specs.Sound.{Sound}
 use Rattle.sheet.specs.SoundLaws.{judged_sound}
 use Rattle.sheet.specs.Tasks.{tasks_of}
@@ -10,7 +10,6 @@ use Rattle.schedule.specs.Calls.{sizes_of, told_size}
 use Rattle.schedule.specs.CallLaws.{sizes_no, sizes_given}
 use Rattle.schedule.specs.Conditions.{late_of, Filled}
 use Rattle.schedule.proofs.Endings.{answers_refused, answers_small, answers_late, answers_full}
-use borrow.Author.Rules.{rules}
 use Rattle.schedule.proofs.responses.Goals as goal
 
 pub returns-in_default : goal.returns-in_default

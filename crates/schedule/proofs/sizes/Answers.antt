@@ -10,7 +10,6 @@ use Rattle.sheet.specs.Sound.{Sound}
 use Rattle.sheet.specs.SoundLaws.{judged_sound}
 use Rattle.schedule.specs.CallLaws.{sizes_refused, sizes_over, sizes_many, sizes_fit}
 use Rattle.schedule.specs.Calls.{most_ticks}
-use borrow.Author.Rules.{rules}
 use Rattle.schedule.proofs.sizes.Goals.{After-judge-v}
 use Rattle.schedule.proofs.sizes.Goals as goal
 

@@ -7,7 +7,6 @@ use Rattle.schedule.specs.Calls.{greatest_after, told_totals}
 use Rattle.schedule.specs.CallLaws.{greatest_none}
 use Rattle.schedule.specs.Results.{responses_given}
 use Rattle.schedule.specs.RowLaws.{filled_holds}
-use borrow.Author.Rules.{rules}
 use Rattle.schedule.proofs.task_responses.Goals as goal
 
 pub shape_of-table-in_default : goal.shape_of-table-in_default

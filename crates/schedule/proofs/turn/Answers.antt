@@ -1,13 +1,11 @@
 -- Task by task: a release that is now brings its budget and is moved on by its period, and the earliest of the next ones is kept.
 use mathlib.Core.Path.{◌≡◌, refl, ap}
-use mathlib.Core.Logic.{⊎_elim}
 use native.Mathlib.Nat.{le_refl}
 use native.Mathlib.Omega.{arith}
-use Prim.Native.Nat.{suc, ◌-◌, ◌<◌}
+use Prim.Native.Nat.{suc, ◌<◌}
 use Rattle.arith.specs.WholeLaws.{up_above}
-use Rattle.schedule.specs.Conditions.{brings, placed, coming}
-use Rattle.schedule.proofs.Releases.{Moved, moved_now, moved_later, TurnedTo, turn_start, placed_fits, turned_now, turned_later}
-use borrow.Author.Rules.{rules}
+use Rattle.schedule.specs.Conditions.{placed, coming}
+use Rattle.schedule.proofs.Releases.{Moved, moved_now, moved_later, turn_start, placed_fits, turned_now, turned_later}
 use Rattle.schedule.proofs.turn.Goals.{Joined-due-at, then-due-at, else-due-at, then-release-soon+then-release-at+then-after-soon, then-release-soon+then-release-at+else-after-soon, then-release-soon+else-release-at, else-release-soon}
 use Rattle.schedule.proofs.turn.Goals as goal
 
@@ -16,8 +14,8 @@ own_moved : (c : Joined-due-at) → let x = c.before.args in Moved x.own.period 
 own_moved c =
     let r = c.before.requires in
     elim c.if-due-at.branch [
-      then-due-at w ↦ moved_now r.own_positive r.next_at.own_at w.if-due-at.true w.due-is w.clear-is
-    | else-due-at w ↦ moved_later r.own_positive r.next_at.own_at w.if-due-at.false w.due-is w.clear-is
+      | then-due-at w ↦ moved_now r.own_positive r.next_at.own_at w.if-due-at.true w.due-is w.clear-is
+      | else-due-at w ↦ moved_later r.own_positive r.next_at.own_at w.if-due-at.false w.due-is w.clear-is
     ]
 
 pub overflow_add-clear : goal.overflow_add-clear
@@ -49,14 +47,14 @@ loop-p-preserved c =
     let positive = c.requires.places.period_positive l.p known in
     let first = l.invariant.place_at l.p (le_refl l.p) known in
     elim c.if-release-soon.branch [
-      then-release-soon+then-release-at+then-after-soon w ↦
-        turned_now c.requires.places l.invariant known (moved_now positive first w.if-release-at.true refl w.clear-is) (omega (arith, w)) (omega (arith, w)) (λ m. omega (arith, w)) w.next-is
-    | then-release-soon+then-release-at+else-after-soon w ↦
-        turned_now c.requires.places l.invariant known (moved_now positive first w.if-release-at.true refl w.clear-is) (omega (arith, w)) (omega (arith, w)) (λ m. omega (arith, w, l.invariant.later)) w.next-is
-    | then-release-soon+else-release-at w ↦
-        turned_later c.requires.places l.invariant known (moved_later positive first w.if-release-at.false refl w.clear-is) (omega (arith, w)) (omega (arith, w)) (λ m. omega (arith, w)) w.next-is refl
-    | else-release-soon w ↦
-        turned_later c.requires.places l.invariant known (moved_later positive first (λ z. omega (arith, w, l.invariant.later)) refl w.clear-is) (omega (arith, w)) (omega (arith, w)) (λ m. omega (arith, w, l.invariant.later)) w.next-is refl
+      | then-release-soon+then-release-at+then-after-soon w ↦
+          turned_now c.requires.places l.invariant known (moved_now positive first w.if-release-at.true refl w.clear-is) (omega (arith, w)) (omega (arith, w)) (λ m. omega (arith, w)) w.next-is
+      | then-release-soon+then-release-at+else-after-soon w ↦
+          turned_now c.requires.places l.invariant known (moved_now positive first w.if-release-at.true refl w.clear-is) (omega (arith, w)) (omega (arith, w)) (λ m. omega (arith, w, l.invariant.later)) w.next-is
+      | then-release-soon+else-release-at w ↦
+          turned_later c.requires.places l.invariant known (moved_later positive first w.if-release-at.false refl w.clear-is) (omega (arith, w)) (omega (arith, w)) (λ m. omega (arith, w)) w.next-is refl
+      | else-release-soon w ↦
+          turned_later c.requires.places l.invariant known (moved_later positive first (λ z. omega (arith, w, l.invariant.later)) refl w.clear-is) (omega (arith, w)) (omega (arith, w)) (λ m. omega (arith, w, l.invariant.later)) w.next-is refl
     ]
 
 pub returns : goal.returns

@@ -1,12 +1,5 @@
-use mathlib.Core.Path.{◌≡◌, refl, ap}
-use mathlib.Core.Logic.{⊎_elim}
-use native.Mathlib.Nat.{le_refl}
-use native.Mathlib.Omega.{arith}
-use Prim.Native.Nat.{suc, ◌-◌, ◌<◌}
-use Rattle.arith.specs.WholeLaws.{up_above}
-use Rattle.schedule.specs.Conditions.{brings, placed, coming}
-use Rattle.schedule.proofs.Releases.{Moved, moved_now, moved_later, TurnedTo, turn_start, placed_fits, turned_now, turned_later}
-use borrow.Author.Rules.{rules}
+use Prim.Native.Nat.{◌-◌}
+use Rattle.schedule.proofs.Releases.{TurnedTo}
 use Rattle.schedule.proofs.turn.Given as goal
 
 abbrev pub invariant-loop-p : goal.invariant-loop-p

@@ -1,13 +1,10 @@
 -- From release to release of the level one unit of its work is done in each tick; a job of the row is done where that ends, and late where it does not by the next release.
 use mathlib.Core.Path.{refl}
-use mathlib.Core.Logic.{⊎_elim}
-use Prim.Native.Nat.{◌-◌}
 use native.Mathlib.Omega.{arith}
 use lib.ListN.{length}
-use Rattle.schedule.specs.Conditions.{coming, NextAt}
-use Rattle.schedule.proofs.Draining.{rests_most, Gap, Underway, start, release_most, finished, some_work, waited, blocked, rested_on, place_fits, job_done}
+use Rattle.schedule.specs.Conditions.{coming}
+use Rattle.schedule.proofs.Draining.{rests_most, Gap, start, release_most, finished, some_work, waited, blocked, rested_on, place_fits, job_done}
 use Rattle.schedule.proofs.Releases.{turned_gap, turned_next, next_start}
-use borrow.Author.Rules.{rules}
 use Rattle.schedule.proofs.walk_row.Goals.{then-release-at, else-release-at, After-turn-now}
 use Rattle.schedule.proofs.walk_row.Goals as goal
 
@@ -85,8 +82,8 @@ pub loop-at-preserved : goal.loop-at-preserved
 loop-at-preserved c =
     let l = c.loop-at in (
       elim c.if-release-at.branch [
-        then-release-at w ↦ rw (w.row-is, w.release-is, w.k-is) (job_done c.requires.walk_fits l.invariant.0 (gap (goal.at.loop-at-preserved c).After-turn-now) c.if-now-clear.false w.if-release-at.true)
-      | else-release-at w ↦ rw (w.row-is, w.release-is, w.k-is) (rested_on c.requires.walk_fits l.invariant.0 (gap (goal.at.loop-at-preserved c).After-turn-now) c.if-now-clear.false w.if-release-at.false)
+        | then-release-at w ↦ rw (w.row-is, w.release-is, w.k-is) (job_done c.requires.walk_fits l.invariant.0 (gap (goal.at.loop-at-preserved c).After-turn-now) c.if-now-clear.false w.if-release-at.true)
+        | else-release-at w ↦ rw (w.row-is, w.release-is, w.k-is) (rested_on c.requires.walk_fits l.invariant.0 (gap (goal.at.loop-at-preserved c).After-turn-now) c.if-now-clear.false w.if-release-at.false)
       ],
       turned_next c.requires.places_fit c.requires.walk_fits.period_positive c.turn-now.ensures,
     )

@@ -1,12 +1,7 @@
-use mathlib.Core.Path.{refl}
-use mathlib.Core.Logic.{⊎_elim}
 use Prim.Native.Nat.{◌-◌}
-use native.Mathlib.Omega.{arith}
 use lib.ListN.{length}
 use Rattle.schedule.specs.Conditions.{coming, NextAt}
-use Rattle.schedule.proofs.Draining.{rests_most, Gap, Underway, start, release_most, finished, some_work, waited, blocked, rested_on, place_fits, job_done}
-use Rattle.schedule.proofs.Releases.{turned_gap, turned_next, next_start}
-use borrow.Author.Rules.{rules}
+use Rattle.schedule.proofs.Draining.{Underway}
 use Rattle.schedule.proofs.walk_row.Given as goal
 
 abbrev pub invariant-loop-at : goal.invariant-loop-at

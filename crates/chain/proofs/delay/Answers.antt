@@ -95,7 +95,7 @@ returns c =
     let filled = c.responses-filled.ensures in
     let first = first_of (chain_of a.s a.number) in
     let job : a.release / c.first_period-period.result * period (tasks_of a.s) first ≡ a.release =
-        ap (λ x. a.release / x * period (tasks_of a.s) first) c.first_period-period.ensures.0 ∙ job_release (tasks_of a.s) first a.release (whole at) in
+    ap (λ x. a.release / x * period (tasks_of a.s) first) c.first_period-period.ensures.0 ∙ job_release (tasks_of a.s) first a.release (whole at) in
     rw (asked at)
     (answers_given a.s a.table.now _ (sym filled.0 ∙ ap told_totals c.in-Table.is) (ap given (sym (c.delay_in.ensures ∙ ap (delay_at (tasks_of a.s) (chain_of a.s a.number)) job)))
     filled.1)

@@ -1,5 +1,5 @@
 -- The plan and the table hold what the chain's own delay is made of.
-use mathlib.Core.Path.{◌≡◌, sym, ap, ◌∙◌}
+use mathlib.Core.Path.{◌≡◌, ap, ◌∙◌}
 use native.Mathlib.Omega.{arith}
 use lib.ListN.{length, take}
 use Rattle.sheet.specs.Tasks.{tasks_of, chain_of}

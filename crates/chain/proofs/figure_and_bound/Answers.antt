@@ -1,7 +1,6 @@
 -- The plan and the table hold what the chain's own figure and bound are made of.
-use mathlib.Core.Path.{◌≡◌, sym, ap, ◌∙◌, subst}
-use Prim.Native.Nat.{◌*◌, ◌≤◌}
-use native.Mathlib.Omega.{arith}
+use mathlib.Core.Path.{◌≡◌, ap, ◌∙◌, subst}
+use Prim.Native.Nat.{◌≤◌}
 use lib.ListN.{length, take}
 use Rattle.sheet.specs.Tasks.{tasks_of, chain_of, first_of}
 use Rattle.chain.specs.Conditions.{TakenChain, ChainIn, Greatest, period_in, count_in, delay_in, bound_in}

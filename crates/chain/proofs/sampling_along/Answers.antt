@@ -11,7 +11,7 @@ use Rattle.chain.specs.declared.answer.HandOver.{HandOver}
 use Rattle.chain.specs.Conditions.{most_wait, period_in, count_in, delay_in, ahead, TaskIn, ChainIn}
 use Rattle.chain.specs.WalkLaws.{part_from, ahead_path, ahead_few, path_delay}
 use Rattle.chain.specs.GreatestLaws.{GreatestTo, greatest_first}
-use Rattle.chain.specs.FollowLaws.{Followed, followed_none, followed_again, followed_longer, followed_shorter}
+use Rattle.chain.specs.FollowLaws.{followed_none, followed_again, followed_longer, followed_shorter}
 use Rattle.chain.proofs.sampling_along.Goals.{After-first_hand_over-next, then-next-followed+then-ticks-delay, then-next-followed+else-ticks-delay, else-next-followed}
 use Rattle.chain.proofs.sampling_along.Goals as goal
 
@@ -117,10 +117,10 @@ loop-k-preserved c =
     let o = c.first_hand_over-next.ensures in (
       omega (arith, c.loop-k-test.true),
       elim c.if-next-followed.branch [
-        then-next-followed+then-ticks-delay w ↦
-          rw (w.ticks-is ∙ whole at w.walk.result w.walk.ensures, w.at-is, w.followed-is) (followed_longer _ _ _ _ f o (omega (arith, w.if-ticks-delay.true, whole at w.walk.result w.walk.ensures)))
+        | then-next-followed+then-ticks-delay w ↦
+            rw (w.ticks-is ∙ whole at w.walk.result w.walk.ensures, w.at-is, w.followed-is) (followed_longer _ _ _ _ f o (omega (arith, w.if-ticks-delay.true, whole at w.walk.result w.walk.ensures)))
         | then-next-followed+else-ticks-delay w ↦
-          rw (w.ticks-is, w.at-is, w.followed-is) (followed_shorter _ _ _ _ f o (omega (arith, w.if-ticks-delay.false, whole at w.walk.result w.walk.ensures)))
+            rw (w.ticks-is, w.at-is, w.followed-is) (followed_shorter _ _ _ _ f o (omega (arith, w.if-ticks-delay.false, whole at w.walk.result w.walk.ensures)))
         | else-next-followed w ↦ rw (w.ticks-is, w.at-is, w.followed-is) (followed_again _ _ _ _ f o (omega (arith, w.if-next-followed.false)))
       ],
     )

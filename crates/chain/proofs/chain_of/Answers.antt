@@ -1,15 +1,14 @@
 -- A number that the sheet has is that of one of the eight places.
-use mathlib.Core.Path.{◌≡◌, refl, sym, ◌∙◌}
+use mathlib.Core.Path.{◌≡◌, refl}
 use Prim.Native.Nat.{◌-◌, ◌≤◌, ◌<◌}
 use native.Mathlib.Omega.{arith}
-use lib.ListN.{length, length-map}
+use lib.ListN.{length}
 use Rattle.answers.specs.AnswerLaws.{when_fine}
 use Rattle.sheet.specs.Fields.{Kind, old, new, kind_of, chains, value}
 use Rattle.sheet.specs.Tasks.{chain_count}
 use Rattle.sheet.specs.SoundLaws.{inside}
 use Rattle.sheet.specs.TaskLaws.{chain_place}
 use Rattle.recurrence.proofs.Chains.{entries_whole}
-use borrow.Author.Rules.{rules}
 use Rattle.chain.proofs.chain_of.Goals.{Start}
 use Rattle.chain.proofs.chain_of.Goals as goal
 

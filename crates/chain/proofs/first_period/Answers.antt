@@ -4,10 +4,9 @@ use Prim.Native.Nat.{◌<◌}
 use native.Mathlib.Omega.{arith}
 use lib.ListN.{get_or}
 use Rattle.theory.specs.Model.Schedule.{period}
-use Rattle.sheet.specs.Tasks.{tasks_of, chain_of}
+use Rattle.sheet.specs.Tasks.{tasks_of}
 use Rattle.sheet.specs.TaskLaws.{tasks_length, period_at, place_allowed, entry_listed}
 use Rattle.chain.proofs.Lent.{lent_some, lent_first}
-use borrow.Author.Rules.{rules}
 use Rattle.chain.proofs.first_period.Goals.{After-chain_of-c}
 use Rattle.chain.proofs.first_period.Goals as goal
 

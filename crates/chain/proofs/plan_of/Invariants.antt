@@ -1,15 +1,9 @@
-use mathlib.Core.Path.{◌≡◌, refl, sym, ap₂, subst}
-use Prim.Native.Nat.{◌+◌, ◌-◌, ◌≤◌, ◌<◌}
-use native.Mathlib.Numerals.{add-one}
-use native.Mathlib.Omega.{arith}
-use lib.ListN.{length}
+use mathlib.Core.Path.{◌≡◌}
+use Prim.Native.Nat.{◌-◌, ◌≤◌}
 use Rattle.arith.specs.Ranges.{sum}
 use Rattle.theory.specs.Model.Responses.{jobs}
 use Rattle.sheet.specs.Tasks.{tasks_of}
-use Rattle.sheet.specs.TaskLaws.{tasks_length, jobs_at}
 use Rattle.chain.specs.Conditions.{Planned}
-use Rattle.chain.specs.PlanLaws.{planned_none, planned_more, row_few}
-use borrow.Author.Rules.{rules}
 use Rattle.chain.proofs.plan_of.Given as goal
 
 abbrev pub invariant-loop-i : goal.invariant-loop-i

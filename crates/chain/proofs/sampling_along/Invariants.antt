@@ -1,17 +1,6 @@
-use mathlib.Core.Path.{◌≡◌, sym, ap, ◌∙◌, subst}
-use mathlib.Core.List.{List}
-use mathlib.Core.Logic.{⊎_elim}
-use Prim.Native.Nat.{ℕ, ◌+◌, ◌-◌, ◌*◌, ◌≤◌}
-use native.Mathlib.Nat.{le_refl, le_trans, mul-le-mul, mul-le-mul_right}
-use native.Mathlib.Omega.{arith}
-use lib.ListN.{length, take, drop}
-use borrow.Author.Rules.{rules}
-use Rattle.sheet.specs.Tasks.{first_of}
-use Rattle.schedule.specs.Calls.{most_ticks}
-use Rattle.chain.specs.Conditions.{most_wait, period_in, count_in, delay_in, ahead, TaskIn, ChainIn}
-use Rattle.chain.specs.WalkLaws.{part_from, ahead_path, ahead_few, path_delay}
-use Rattle.chain.specs.GreatestLaws.{GreatestTo, greatest_first}
-use Rattle.chain.specs.FollowLaws.{Followed, followed_none, followed_again, followed_longer, followed_shorter}
+use Prim.Native.Nat.{◌-◌, ◌≤◌}
+use Rattle.chain.specs.Conditions.{ahead}
+use Rattle.chain.specs.FollowLaws.{Followed}
 use Rattle.chain.proofs.sampling_along.Given as goal
 
 abbrev pub invariant-loop-k : goal.invariant-loop-k

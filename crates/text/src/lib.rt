@@ -1,6 +1,8 @@
 // Timing sheets typed as text. `show` puts a sheet's text, which is one list of bytes, line by line (specs/Shown.antt). `parse` reads a text word
 // by word (specs/Words.antt), by a table of what is wanted next (specs/Grammar.antt), to its end or to the first thing that is wrong
 // (specs/Run.antt). That what is shown says the sheet is proved of them (specs/RoundTrip.antt).
+#![tactic(auto)]
+
 ghost use Rattle.std.specs.Prelude.{◌≡◌, true, cond, ◌++◌, ◌+◌, ◌-◌, ◌≤◌, min, eqb, length, set, get_or, drop, take};
 ghost use Rattle.theory.specs.Model.Schedule.{none};
 ghost use Rattle.text.specs.Words.{ends, word, same, every, between, digit, name_byte, tenfold, number, index, keyword, name_says, says};

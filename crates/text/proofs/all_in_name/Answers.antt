@@ -1,10 +1,7 @@
 -- What is left of the word decides, since every byte before passed.
-use mathlib.Core.Path.{◌≡◌, refl, sym, ◌∙◌}
-use Prim.Native.Nat.{◌-◌}
+use mathlib.Core.Path.{refl, sym, ◌∙◌}
 use native.Mathlib.Omega.{arith}
-use lib.ListN.{length, drop}
-use borrow.Author.Rules.{rules}
-use Rattle.text.specs.Words.{word, every, name_byte}
+use Rattle.text.specs.Words.{name_byte}
 use Rattle.text.specs.WordLaws.{word_none, word_stop, word_on, every_none, every_on, every_not}
 use Rattle.text.proofs.all_in_name.Goals as goal
 

@@ -1,6 +1,5 @@
 -- Each part is the definition's.
 use mathlib.Core.Path.{ap, ◌∙◌}
-use borrow.Author.Rules.{rules}
 use Rattle.bits.specs.Bits.{list_of}
 use Rattle.text.specs.Grammar.{wanting, opened}
 use Rattle.text.proofs.begin_chain.Goals as goal

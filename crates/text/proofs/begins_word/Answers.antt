@@ -3,7 +3,6 @@ use mathlib.Core.Path.{sym, ap, ap₂, ◌∙◌}
 use mathlib.Core.Bool.{true, false, cond}
 use native.Mathlib.Omega.{arith}
 use borrow.Author.Tests.{eq-eqb, ne_eqb}
-use borrow.Author.Rules.{rules}
 use Rattle.text.specs.Words.{ends}
 use Rattle.text.specs.Run.{begins}
 use Rattle.text.proofs.begins_word.Goals as goal

@@ -2,7 +2,6 @@
 use mathlib.Core.Path.{sym}
 use native.Mathlib.Omega.{arith}
 use lib.ListN.{get_or-eq_default}
-use borrow.Author.Rules.{rules}
 use Rattle.text.specs.WordLaws.{get_d_any}
 use Rattle.text.proofs.byte_at.Goals as goal
 

@@ -1,12 +1,10 @@
 -- Past the places there is none.
-use mathlib.Core.Path.{◌≡◌, sym, ◌∙◌}
+use mathlib.Core.Path.{◌≡◌, sym}
 use native.Mathlib.Omega.{arith}
-use lib.ListN.{length, length-map, get_or-eq_default}
-use borrow.Author.Rules.{rules}
+use lib.ListN.{length, get_or-eq_default}
 use Rattle.bits.specs.Bits.{list_of}
-use Rattle.theory.specs.Model.Schedule.{none}
 use Rattle.sheet.specs.Fields.{idle}
-use Rattle.sheet.specs.Calls.{places, unused}
+use Rattle.sheet.specs.Calls.{unused}
 use Rattle.text.specs.WordLaws.{get_d_any}
 use Rattle.text.proofs.chain_of.Goals as goal
 

@@ -1,6 +1,5 @@
 -- Each part is the definition's.
 use mathlib.Core.Path.{ap}
-use borrow.Author.Rules.{rules}
 use Rattle.text.specs.Grammar.{fresh}
 use Rattle.text.proofs.count_task.Goals as goal
 

@@ -2,7 +2,6 @@
 use mathlib.Core.Path.{ap, ap₂, ◌∙◌}
 use mathlib.Core.Bool.{cond}
 use lib.Dec.{ltb, eqb}
-use borrow.Author.Rules.{rules}
 use Rattle.text.specs.Grammar.{wanting, line_end}
 use Rattle.text.proofs.end_line.Goals as goal
 

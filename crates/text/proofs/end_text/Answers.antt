@@ -1,5 +1,4 @@
 -- Each part is the definition's.
-use borrow.Author.Rules.{rules}
 use Rattle.text.specs.Grammar.{text_end}
 use Rattle.text.proofs.end_text.Goals as goal
 

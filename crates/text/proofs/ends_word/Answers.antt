@@ -2,7 +2,6 @@
 use mathlib.Core.Path.{ap, ◌∙◌}
 use mathlib.Core.Bool.{true, cond}
 use lib.Dec.{eqb}
-use borrow.Author.Rules.{rules}
 use Rattle.text.specs.Words.{ends}
 use Rattle.text.proofs.ends_word.Goals as goal
 

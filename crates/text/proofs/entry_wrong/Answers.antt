@@ -2,8 +2,6 @@
 use mathlib.Core.Path.{ap, ap₂, ◌∙◌}
 use mathlib.Core.Bool.{cond}
 use lib.Dec.{leb}
-use lib.ListN.{length}
-use borrow.Author.Rules.{rules}
 use Rattle.text.specs.Grammar.{repeated, entry_wrong}
 use Rattle.text.proofs.entry_wrong.Goals as goal
 

@@ -1,7 +1,6 @@
 -- One of the five.
 use mathlib.Core.Path.{ap₂, ◌∙◌}
 use mathlib.Core.Bool.{true, cond}
-use borrow.Author.Rules.{rules}
 use Rattle.text.specs.Words.{digit, name_byte}
 use Rattle.text.proofs.in_name.Goals as goal
 

@@ -1,11 +1,9 @@
 -- From the last name back: none that was passed is the word, so what is left decides.
-use mathlib.Core.Path.{◌≡◌, refl, sym, ap, ◌∙◌}
-use Prim.Native.Nat.{◌-◌, ◌≤◌}
+use mathlib.Core.Path.{refl, sym, ap, ◌∙◌}
+use Prim.Native.Nat.{◌-◌}
 use native.Mathlib.Omega.{arith}
 use lib.ListN.{drop}
-use borrow.Author.Rules.{rules}
-use Rattle.theory.specs.Model.Schedule.{none}
-use Rattle.text.specs.Words.{word, same, index}
+use Rattle.text.specs.Words.{word, same}
 use Rattle.text.specs.Conditions.{names_at}
 use Rattle.text.specs.WordLaws.{index_here, index_past, index_none, name_at}
 use Rattle.text.proofs.index_of.Goals as goal

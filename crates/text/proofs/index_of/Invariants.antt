@@ -1,12 +1,8 @@
-use mathlib.Core.Path.{◌≡◌, refl, sym, ap, ◌∙◌}
-use Prim.Native.Nat.{◌-◌, ◌≤◌}
-use native.Mathlib.Omega.{arith}
+use mathlib.Core.Path.{◌≡◌}
+use Prim.Native.Nat.{◌≤◌}
 use lib.ListN.{drop}
-use borrow.Author.Rules.{rules}
-use Rattle.theory.specs.Model.Schedule.{none}
-use Rattle.text.specs.Words.{word, same, index}
+use Rattle.text.specs.Words.{word, index}
 use Rattle.text.specs.Conditions.{names_at}
-use Rattle.text.specs.WordLaws.{index_here, index_past, index_none, name_at}
 use Rattle.text.proofs.index_of.Given as goal
 
 abbrev pub invariant-loop-j : goal.invariant-loop-j

@@ -1,5 +1,4 @@
 -- From 0 to 9.
-use borrow.Author.Rules.{rules}
 use Rattle.text.specs.Words.{digit}
 use Rattle.text.proofs.is_digit.Goals as goal
 

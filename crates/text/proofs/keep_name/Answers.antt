@@ -8,8 +8,6 @@ use lib.Dec.{eqb}
 use lib.ListN.{set}
 use lib.Seq.{set_out}
 use borrow.Author.Tests.{eq-eqb, ne_eqb}
-use borrow.Author.Rules.{rules}
-use Rattle.sheet.specs.Calls.{places}
 use Rattle.text.proofs.keep_name.Goals as goal
 
 -- what is kept, by the tests

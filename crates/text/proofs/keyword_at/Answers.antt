@@ -2,7 +2,6 @@
 use mathlib.Core.Path.{ap, ◌∙◌}
 use mathlib.Core.Bool.{cond}
 use lib.ListN.{drop}
-use borrow.Author.Rules.{rules}
 use Rattle.text.specs.Shown.{task_word, period_word, budget_word, rank_word, chain_word}
 use Rattle.text.specs.Words.{ends, word, same, edition_word, keyword}
 use Rattle.text.proofs.keyword_at.Goals as goal

@@ -1,7 +1,6 @@
 -- The two arms are the definition's.
 use mathlib.Core.Path.{sym, ap, ◌∙◌}
 use mathlib.Core.Bool.{cond}
-use borrow.Author.Rules.{rules}
 use Rattle.text.proofs.keyword_or.Goals as goal
 
 pub returns-then-same_words : goal.returns-then-same_words

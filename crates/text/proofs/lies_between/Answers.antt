@@ -4,7 +4,6 @@ use mathlib.Core.Bool.{true, false, cond}
 use native.Mathlib.Omega.{arith}
 use lib.Dec.{ltb}
 use borrow.Author.Tests.{lt-ltb, le-ltb}
-use Rattle.text.specs.Grammar.{low}
 use Rattle.text.proofs.lies_between.Goals as goal
 
 pub returns-then-b-low : goal.returns-then-b-low

@@ -3,8 +3,6 @@ use mathlib.Core.Path.{sym, ap, ◌∙◌}
 use mathlib.Core.Bool.{cond}
 use native.Mathlib.Omega.{arith}
 use borrow.Author.Tests.{eq-eqb, ne_eqb}
-use borrow.Author.Rules.{rules}
-use Rattle.theory.specs.Model.Schedule.{none}
 use Rattle.text.specs.Words.{saying, name_says}
 use Rattle.text.proofs.name_says.Goals as goal
 

@@ -1,9 +1,8 @@
 -- What is left of the word goes on from the number so far.
-use mathlib.Core.Path.{◌≡◌, refl, sym, ap, ◌∙◌}
-use Prim.Native.Nat.{◌+◌, ◌-◌}
+use mathlib.Core.Path.{refl, sym, ap, ◌∙◌}
+use Prim.Native.Nat.{◌+◌}
 use native.Mathlib.Omega.{arith}
-use lib.ListN.{length, drop}
-use borrow.Author.Rules.{rules}
+use lib.ListN.{drop}
 use Rattle.text.specs.Words.{word, number}
 use Rattle.text.specs.WordLaws.{word_none, word_stop, word_on, number_none, number_on}
 use Rattle.text.proofs.number_at.Goals as goal

@@ -1,10 +1,7 @@
-use mathlib.Core.Path.{◌≡◌, refl, sym, ap, ◌∙◌}
-use Prim.Native.Nat.{◌+◌, ◌-◌}
-use native.Mathlib.Omega.{arith}
+use mathlib.Core.Path.{◌≡◌}
+use Prim.Native.Nat.{◌-◌}
 use lib.ListN.{length, drop}
-use borrow.Author.Rules.{rules}
 use Rattle.text.specs.Words.{word, number}
-use Rattle.text.specs.WordLaws.{word_none, word_stop, word_on, number_none, number_on}
 use Rattle.text.proofs.number_at.Given as goal
 
 abbrev pub invariant-loop-i : goal.invariant-loop-i

@@ -6,7 +6,6 @@ use Prim.Native.Nat.{ℕ}
 use native.Mathlib.Omega.{arith}
 use lib.ListN.{length, take, drop}
 use borrow.Author.Tests.{lt-ltb, le-ltb}
-use borrow.Author.Rules.{rules}
 use Rattle.text.specs.declared.Parsed.{Parsed}
 use Rattle.text.specs.Grammar.{fresh}
 use Rattle.text.specs.Run.{Ending, run, nameless, faulty, settled, parse_of}

@@ -1,5 +1,4 @@
 -- Each part is the definition's.
-use borrow.Author.Rules.{rules}
 use Rattle.text.specs.Run.{place_after}
 use Rattle.text.proofs.place_after.Goals as goal
 

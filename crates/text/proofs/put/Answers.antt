@@ -1,12 +1,9 @@
 -- After i turns, putting the bytes that are left gives what putting them all at the start would have given.
-use mathlib.Core.Path.{◌≡◌, refl, sym, ap, ◌∙◌}
-use Prim.Native.Nat.{◌+◌, ◌-◌, ◌≤◌}
+use mathlib.Core.Path.{refl, sym, ap, ◌∙◌}
+use Prim.Native.Nat.{◌+◌}
 use native.Mathlib.Omega.{arith}
 use lib.ListN.{length, get_or, drop, length-set, drop_of_length-le}
 use lib.Seq.{sets}
-use borrow.Author.Rules.{rules}
-use Rattle.answers.specs.Answers.{given}
-use Rattle.text.specs.Words.{ends}
 use Rattle.text.specs.Puts.{put_step}
 use Rattle.text.proofs.put.Goals as goal
 

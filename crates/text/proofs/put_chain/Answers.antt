@@ -1,8 +1,6 @@
 -- Each part stands where the one before it ends.
 use native.Mathlib.Omega.{arith}
-use borrow.Author.Rules.{rules}
 use Rattle.text.specs.Shown.{chain_line}
-use Rattle.text.specs.Words.{ends, word}
 use Rattle.text.specs.Puts.{puts_then}
 use Rattle.text.proofs.put_chain.Goals as goal
 

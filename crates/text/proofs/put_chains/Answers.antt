@@ -1,13 +1,12 @@
 -- After c turns the first c chains' lines stand in the buffer.
-use mathlib.Core.Path.{◌≡◌, refl, ap, ◌∙◌}
+use mathlib.Core.Path.{refl, ap, ◌∙◌}
 use mathlib.Core.List.{List}
-use Prim.Native.Nat.{ℕ, ◌+◌, ◌-◌, ◌*◌, ◌≤◌}
+use Prim.Native.Nat.{ℕ}
 use native.Mathlib.Omega.{arith}
-use lib.ListN.{length, get_or}
-use borrow.Author.Rules.{rules}
+use lib.ListN.{get_or}
 use Rattle.sheet.specs.Fields.{idle}
 use Rattle.text.specs.Shown.{joined, chain_line, chain_lines, chain_count}
-use Rattle.text.specs.Puts.{Puts, puts_none, puts_then, puts_same, puts_length}
+use Rattle.text.specs.Puts.{puts_none, puts_then, puts_same, puts_length}
 use Rattle.text.specs.ShownLaws.{joined_snoc}
 use Rattle.text.proofs.put_chains.Goals as goal
 

@@ -1,12 +1,11 @@
 -- After i turns the first i entries stand in the buffer.
-use mathlib.Core.Path.{◌≡◌, refl, ap, ◌∙◌}
+use mathlib.Core.Path.{refl, ap, ◌∙◌}
 use mathlib.Core.List.{List}
-use Prim.Native.Nat.{ℕ, ◌+◌, ◌-◌, ◌*◌, ◌≤◌, min}
+use Prim.Native.Nat.{ℕ, min}
 use native.Mathlib.Omega.{arith}
-use lib.ListN.{length, get_or}
-use borrow.Author.Rules.{rules}
+use lib.ListN.{get_or}
 use Rattle.text.specs.Shown.{joined, entry_word, entry_words}
-use Rattle.text.specs.Puts.{Puts, puts_none, puts_then, puts_same, puts_length}
+use Rattle.text.specs.Puts.{puts_none, puts_then, puts_same, puts_length}
 use Rattle.text.specs.ShownLaws.{joined_snoc}
 use Rattle.text.proofs.put_entries.Goals as goal
 

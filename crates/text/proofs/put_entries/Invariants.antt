@@ -1,12 +1,8 @@
-use mathlib.Core.Path.{◌≡◌, refl, ap, ◌∙◌}
-use mathlib.Core.List.{List}
-use Prim.Native.Nat.{ℕ, ◌+◌, ◌-◌, ◌*◌, ◌≤◌, min}
-use native.Mathlib.Omega.{arith}
-use lib.ListN.{length, get_or}
-use borrow.Author.Rules.{rules}
-use Rattle.text.specs.Shown.{joined, entry_word, entry_words}
-use Rattle.text.specs.Puts.{Puts, puts_none, puts_then, puts_same, puts_length}
-use Rattle.text.specs.ShownLaws.{joined_snoc}
+use mathlib.Core.Path.{◌≡◌}
+use Prim.Native.Nat.{◌+◌, ◌-◌, ◌*◌, ◌≤◌}
+use lib.ListN.{length}
+use Rattle.text.specs.Shown.{entry_words}
+use Rattle.text.specs.Puts.{Puts}
 use Rattle.text.proofs.put_entries.Given as goal
 
 abbrev pub invariant-loop-i : goal.invariant-loop-i

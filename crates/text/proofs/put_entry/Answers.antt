@@ -2,9 +2,7 @@
 use mathlib.Core.Path.{ap}
 use mathlib.Core.List.{◌∷◌, ◌++◌}
 use native.Mathlib.Omega.{arith}
-use borrow.Author.Rules.{rules}
 use Rattle.text.specs.Shown.{numeral, task_word, entry_word}
-use Rattle.text.specs.Words.{ends, number}
 use Rattle.text.specs.Puts.{puts_same}
 use Rattle.text.proofs.put_entry.Goals as goal
 

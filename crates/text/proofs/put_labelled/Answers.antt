@@ -1,7 +1,5 @@
 -- The number stands where the label ends.
 use native.Mathlib.Omega.{arith}
-use borrow.Author.Rules.{rules}
-use Rattle.text.specs.Words.{ends, number}
 use Rattle.text.specs.Puts.{puts_then}
 use Rattle.text.proofs.put_labelled.Goals as goal
 

@@ -4,7 +4,6 @@ use mathlib.Core.Bool.{cond}
 use mathlib.Core.List.{[], ◌++◌}
 use native.Mathlib.Omega.{arith}
 use borrow.Author.Tests.{eq-eqb, ne_eqb}
-use borrow.Author.Rules.{rules}
 use Rattle.text.specs.Shown.{numeral, limit_word, spaced, limit_words}
 use Rattle.text.specs.Puts.{puts_none, puts_same}
 use Rattle.text.proofs.put_limit.Goals as goal

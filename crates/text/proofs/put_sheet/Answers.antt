@@ -1,6 +1,5 @@
 -- The chains stand where the tasks end.
 use native.Mathlib.Omega.{arith}
-use borrow.Author.Rules.{rules}
 use Rattle.text.specs.Shown.{text_of}
 use Rattle.text.specs.Puts.{puts_then}
 use Rattle.text.proofs.put_sheet.Goals as goal

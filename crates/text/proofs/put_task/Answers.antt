@@ -2,9 +2,7 @@
 use mathlib.Core.Path.{ap}
 use mathlib.Core.List.{◌∷◌, ◌++◌}
 use native.Mathlib.Omega.{arith}
-use borrow.Author.Rules.{rules}
 use Rattle.text.specs.Shown.{numeral, task_word, rank_word, spaced, task_line}
-use Rattle.text.specs.Words.{ends}
 use Rattle.text.specs.Puts.{puts_then, puts_same}
 use Rattle.text.proofs.put_task.Goals as goal
 

@@ -1,13 +1,12 @@
 -- After i turns the first i tasks' lines stand in the buffer.
-use mathlib.Core.Path.{◌≡◌, refl, ap, ◌∙◌}
+use mathlib.Core.Path.{refl, ap, ◌∙◌}
 use mathlib.Core.List.{List}
-use Prim.Native.Nat.{ℕ, ◌-◌, ◌*◌, ◌≤◌, min}
+use Prim.Native.Nat.{ℕ, min}
 use native.Mathlib.Omega.{arith}
-use lib.ListN.{length, get_or}
-use borrow.Author.Rules.{rules}
+use lib.ListN.{get_or}
 use Rattle.theory.specs.Model.Schedule.{none}
 use Rattle.text.specs.Shown.{task_line, task_lines, joined}
-use Rattle.text.specs.Puts.{Puts, puts_none, puts_then, puts_same, puts_length}
+use Rattle.text.specs.Puts.{puts_none, puts_then, puts_same, puts_length}
 use Rattle.text.specs.ShownLaws.{joined_snoc}
 use Rattle.text.proofs.put_tasks.Goals as goal
 

@@ -1,10 +1,8 @@
 -- Past the places nothing is put.
-use mathlib.Core.Path.{◌≡◌, sym, ap, ◌∙◌}
+use mathlib.Core.Path.{◌≡◌, sym, ap}
 use native.Mathlib.Omega.{arith}
-use lib.ListN.{length, length-map}
+use lib.ListN.{length}
 use lib.Seq.{set_out}
-use borrow.Author.Rules.{rules}
-use Rattle.sheet.specs.Calls.{places}
 use Rattle.text.proofs.puts_chain.Goals as goal
 
 pub returns : goal.returns

@@ -2,9 +2,6 @@
 use mathlib.Core.Path.{ap, ◌∙◌}
 use mathlib.Core.Bool.{cond}
 use lib.Dec.{eqb}
-use borrow.Author.Rules.{rules}
-use Rattle.answers.specs.Answers.{refusal}
-use Rattle.text.specs.Words.{number}
 use Rattle.text.proofs.range_wrong.Goals as goal
 
 pub returns : goal.returns

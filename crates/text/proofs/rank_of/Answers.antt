@@ -1,10 +1,8 @@
 -- Past the places there is none.
-use mathlib.Core.Path.{◌≡◌, sym, ap, ◌∙◌}
+use mathlib.Core.Path.{◌≡◌, sym, ap}
 use native.Mathlib.Omega.{arith}
-use lib.ListN.{length, length-map, get_or-eq_default}
-use borrow.Author.Rules.{rules}
+use lib.ListN.{length, get_or-eq_default}
 use Rattle.theory.specs.Model.Schedule.{none}
-use Rattle.sheet.specs.Calls.{places}
 use Rattle.text.proofs.rank_of.Goals as goal
 
 pub returns : goal.returns

@@ -1,13 +1,8 @@
-use mathlib.Core.Path.{◌≡◌, refl, sym, ap, ◌∙◌}
-use mathlib.Core.Bool.{cond}
-use Prim.Native.Nat.{ℕ, ◌≤◌}
-use native.Mathlib.Omega.{arith}
+use mathlib.Core.Path.{◌≡◌}
+use Prim.Native.Nat.{◌≤◌}
 use lib.ListN.{get_or}
-use borrow.Author.Rules.{rules}
 use Rattle.theory.specs.Model.Schedule.{none}
 use Rattle.sheet.specs.Fields.{among}
-use Rattle.sheet.specs.FieldLaws.{among_here, among_past, among_none}
-use Rattle.text.specs.Grammar.{ranked}
 use Rattle.text.proofs.rank_wrong.Given as goal
 
 abbrev pub invariant-loop-j : goal.invariant-loop-j

@@ -1,6 +1,5 @@
 -- Each part is the definition's.
 use mathlib.Core.Path.{ap, ap₂, ◌∙◌}
-use borrow.Author.Rules.{rules}
 use Rattle.text.specs.Grammar.{wanting, with_task, unless, ranged, at_budget}
 use Rattle.text.proofs.read_budget.Goals as goal
 

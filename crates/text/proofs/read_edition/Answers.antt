@@ -1,6 +1,5 @@
 -- Each part is the definition's.
 use mathlib.Core.Path.{ap, ap₂, ◌∙◌}
-use borrow.Author.Rules.{rules}
 use Rattle.text.specs.Grammar.{wanting, with_edition, unless, at_edition}
 use Rattle.text.proofs.read_edition.Goals as goal
 

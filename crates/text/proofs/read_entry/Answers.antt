@@ -2,8 +2,7 @@
 use mathlib.Core.Path.{ap, ap₂, ◌∙◌}
 use mathlib.Core.List.{List}
 use Prim.Native.Nat.{ℕ}
-use lib.ListN.{length, set}
-use borrow.Author.Rules.{rules}
+use lib.ListN.{set}
 use Rattle.sheet.specs.declared.Chain.{Chain}
 use Rattle.text.specs.declared.Draft.{Draft}
 use Rattle.text.specs.Grammar.{wanting, with_chain, more, unless, low, word_wrong, at_entry}

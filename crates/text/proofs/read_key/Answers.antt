@@ -1,5 +1,4 @@
 -- Each part is the definition's.
-use borrow.Author.Rules.{rules}
 use Rattle.text.specs.Grammar.{at_key}
 use Rattle.text.proofs.read_key.Goals as goal
 

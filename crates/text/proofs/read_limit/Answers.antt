@@ -2,7 +2,6 @@
 use mathlib.Core.Path.{ap, ap₂, ◌∙◌}
 use mathlib.Core.Bool.{cond}
 use lib.Dec.{eqb}
-use borrow.Author.Rules.{rules}
 use Rattle.text.specs.Grammar.{wanting, at_limit}
 use Rattle.text.proofs.read_limit.Goals as goal
 

@@ -1,7 +1,5 @@
 -- Each part is the definition's.
 use mathlib.Core.Path.{ap, ap₂, ◌∙◌}
-use lib.ListN.{length}
-use borrow.Author.Rules.{rules}
 use Rattle.text.specs.Grammar.{wanting, with_chain, unless, at_limit_number}
 use Rattle.text.proofs.read_limit_number.Goals as goal
 

@@ -2,7 +2,6 @@
 use mathlib.Core.Path.{ap₂, ◌∙◌}
 use mathlib.Core.Bool.{cond}
 use lib.Dec.{ltb, eqb}
-use borrow.Author.Rules.{rules}
 use Rattle.text.specs.Grammar.{at_more}
 use Rattle.text.proofs.read_more.Goals as goal
 

@@ -1,5 +1,4 @@
 -- Each part is the definition's.
-use borrow.Author.Rules.{rules}
 use Rattle.text.specs.Grammar.{at_opening}
 use Rattle.text.proofs.read_opening.Goals as goal
 

@@ -1,6 +1,5 @@
 -- Each part is the definition's.
 use mathlib.Core.Path.{ap, ap₂, ◌∙◌}
-use borrow.Author.Rules.{rules}
 use Rattle.text.specs.Grammar.{wanting, unless, at_period}
 use Rattle.text.proofs.read_period.Goals as goal
 

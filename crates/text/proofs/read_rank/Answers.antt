@@ -1,6 +1,5 @@
 -- Each part is the definition's.
 use mathlib.Core.Path.{ap, ap₂, ◌∙◌}
-use borrow.Author.Rules.{rules}
 use Rattle.text.specs.Grammar.{wanting, with_task, task_more, unless, or_else, ranked, at_rank}
 use Rattle.text.proofs.read_rank.Goals as goal
 

@@ -1,12 +1,9 @@
 -- From the nearest entry back: none that was passed is this one, so what is left decides.
-use mathlib.Core.Path.{◌≡◌, refl, sym, ap, ◌∙◌}
+use mathlib.Core.Path.{refl, sym, ap, ◌∙◌}
 use mathlib.Core.Bool.{cond}
-use Prim.Native.Nat.{ℕ, ◌≤◌}
+use Prim.Native.Nat.{ℕ}
 use native.Mathlib.Omega.{arith}
 use lib.ListN.{get_or}
-use borrow.Author.Rules.{rules}
-use Rattle.theory.specs.Model.Schedule.{none}
-use Rattle.sheet.specs.Fields.{among}
 use Rattle.sheet.specs.FieldLaws.{among_here, among_past, among_none}
 use Rattle.text.specs.Grammar.{repeated}
 use Rattle.text.proofs.repeat_wrong.Goals as goal

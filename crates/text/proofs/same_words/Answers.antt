@@ -1,10 +1,8 @@
 -- The words are the same if they were so far and what is left of them is.
 use mathlib.Core.Path.{◌≡◌, refl, sym, ap, ◌∙◌}
-use Prim.Native.Nat.{◌-◌}
 use native.Mathlib.Omega.{arith}
-use lib.ListN.{length, get_or, drop}
-use borrow.Author.Rules.{rules}
-use Rattle.text.specs.Words.{ends, word, same}
+use lib.ListN.{get_or}
+use Rattle.text.specs.Words.{ends}
 use Rattle.text.specs.WordLaws.{word_none, word_stop, word_on, inside, same_nil, same_differ, same_on}
 use Rattle.text.proofs.same_words.Goals as goal
 

@@ -1,10 +1,7 @@
-use mathlib.Core.Path.{◌≡◌, refl, sym, ap, ◌∙◌}
+use mathlib.Core.Path.{◌≡◌}
 use Prim.Native.Nat.{◌-◌}
-use native.Mathlib.Omega.{arith}
-use lib.ListN.{length, get_or, drop}
-use borrow.Author.Rules.{rules}
-use Rattle.text.specs.Words.{ends, word, same}
-use Rattle.text.specs.WordLaws.{word_none, word_stop, word_on, inside, same_nil, same_differ, same_on}
+use lib.ListN.{length, drop}
+use Rattle.text.specs.Words.{word, same}
 use Rattle.text.proofs.same_words.Given as goal
 
 abbrev pub invariant-loop-x : goal.invariant-loop-x

@@ -1,13 +1,12 @@
 -- What is left of the text, read from the draft so far, gives what the whole gives.
 use mathlib.Core.Path.{◌≡◌, refl, sym, ap, ap₂, ◌∙◌}
 use mathlib.Core.List.{[]}
-use Prim.Native.Nat.{◌+◌, ◌-◌, ◌≤◌}
+use Prim.Native.Nat.{◌+◌}
 use native.Mathlib.Omega.{arith}
 use lib.Dec.{eqb}
 use lib.ListN.{length, get_or, drop, drop_of_length-le}
-use borrow.Author.Rules.{rules}
-use Rattle.text.specs.Grammar.{fresh, text_end}
-use Rattle.text.specs.Run.{place_after, begins, run, nameless}
+use Rattle.text.specs.Grammar.{text_end}
+use Rattle.text.specs.Run.{place_after, begins, run}
 use Rattle.text.specs.Conditions.{names_at}
 use Rattle.text.specs.WordLaws.{get_d_any}
 use Rattle.text.specs.RunLaws.{run_stop, run_on, names_none, named_is, kept_length}

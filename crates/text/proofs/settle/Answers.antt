@@ -2,7 +2,6 @@
 use mathlib.Core.Path.{ap, ◌∙◌}
 use mathlib.Core.Bool.{cond}
 use lib.Dec.{eqb}
-use borrow.Author.Rules.{rules}
 use Rattle.text.proofs.settle.Goals as goal
 
 pub returns : goal.returns

@@ -7,13 +7,11 @@ use lib.Dec.{ltb}
 use lib.ListN.{length, drop}
 use lib.Seq.{sets-eq}
 use borrow.Author.Tests.{lt-ltb, le-ltb}
-use borrow.Author.Rules.{rules}
 use Rattle.answers.specs.Answers.{Answer, given, when, also, refusal}
 use Rattle.answers.specs.AnswerLaws.{also_no, also_fine, refusal_is}
 use Rattle.sheet.specs.declared.Sheet.{Sheet}
 use Rattle.text.specs.Shown.{text_of}
 use Rattle.text.specs.Calls.{show_of}
-use Rattle.text.specs.Words.{ends}
 use Rattle.text.proofs.show.Goals as goal
 
 -- what is answered after the sheet is judged

@@ -1,10 +1,9 @@
 -- What is left goes on from the line and the column so far.
 use mathlib.Core.Path.{◌≡◌, refl, sym, ap, ◌∙◌}
 use mathlib.Core.List.{[]}
-use Prim.Native.Nat.{◌+◌, ◌-◌, ◌≤◌}
+use Prim.Native.Nat.{◌+◌}
 use native.Mathlib.Omega.{arith}
-use lib.ListN.{length, drop, drop_of_length-le}
-use borrow.Author.Rules.{rules}
+use lib.ListN.{drop, drop_of_length-le}
 use Rattle.text.specs.Run.{line_after, column_after}
 use Rattle.text.specs.RunLaws.{line_on, column_on, line_none, column_none}
 use Rattle.text.proofs.spot_after.Goals as goal

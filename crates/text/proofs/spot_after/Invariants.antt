@@ -1,11 +1,7 @@
-use mathlib.Core.Path.{◌≡◌, refl, sym, ap, ◌∙◌}
-use mathlib.Core.List.{[]}
+use mathlib.Core.Path.{◌≡◌}
 use Prim.Native.Nat.{◌+◌, ◌-◌, ◌≤◌}
-use native.Mathlib.Omega.{arith}
-use lib.ListN.{length, drop, drop_of_length-le}
-use borrow.Author.Rules.{rules}
+use lib.ListN.{length, drop}
 use Rattle.text.specs.Run.{line_after, column_after}
-use Rattle.text.specs.RunLaws.{line_on, column_on, line_none, column_none}
 use Rattle.text.proofs.spot_after.Given as goal
 
 abbrev pub invariant-loop-i : goal.invariant-loop-i

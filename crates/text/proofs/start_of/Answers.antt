@@ -2,8 +2,6 @@
 use mathlib.Core.Path.{sym}
 use native.Mathlib.Omega.{arith}
 use lib.ListN.{length, get_or-eq_default}
-use borrow.Author.Rules.{rules}
-use Rattle.sheet.specs.Calls.{places}
 use Rattle.text.specs.WordLaws.{get_d_any}
 use Rattle.text.proofs.start_of.Goals as goal
 

@@ -4,13 +4,11 @@ use mathlib.Core.Bool.{Bool, cond}
 use native.Mathlib.Omega.{arith}
 use lib.ListN.{get_or, drop}
 use borrow.Author.Tests.{eq-eqb, ne_eqb}
-use borrow.Author.Rules.{rules}
 use Rattle.text.specs.declared.Draft.{Draft}
 use Rattle.text.specs.Words.{word, says}
 use Rattle.text.specs.Grammar.{step, line_end}
 use Rattle.text.specs.Run.{begins, turn}
 use Rattle.text.specs.Conditions.{names_at}
-use Rattle.text.specs.WordLaws.{word_at}
 use Rattle.text.proofs.take_byte.Goals as goal
 
 -- what a byte does, by the tests on it

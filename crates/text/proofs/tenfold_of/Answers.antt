@@ -1,8 +1,6 @@
 -- No more than 32 bits hold.
 use native.Mathlib.Omega.{arith}
-use borrow.Author.Rules.{rules}
 use Rattle.text.specs.Words.{tenfold}
-use Rattle.text.specs.Grammar.{more}
 use Rattle.text.proofs.tenfold_of.Goals as goal
 
 pub returns-then-all-lt4294967295 : goal.returns-then-all-lt4294967295

@@ -5,8 +5,6 @@ use Prim.Native.Nat.{ℕ}
 use native.Mathlib.Omega.{arith}
 use lib.ListN.{drop}
 use borrow.Author.Tests.{lt-ltb, le-ltb}
-use borrow.Author.Rules.{rules}
-use Rattle.theory.specs.Model.Schedule.{none}
 use Rattle.text.specs.declared.Word.{Word}
 use Rattle.text.specs.Words.{word, every, digit, name_byte, number, index, keyword, saying, name_says, says}
 use Rattle.text.specs.Conditions.{names_at}

@@ -1,5 +1,4 @@
 -- Each part is the definition's.
-use borrow.Author.Rules.{rules}
 use Rattle.text.specs.Grammar.{word_wrong}
 use Rattle.text.proofs.word_wrong.Goals as goal
 

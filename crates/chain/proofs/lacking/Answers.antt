@@ -1,11 +1,8 @@
 -- The number is judged first, and where the sheet lacks it the fields come before it.
-use mathlib.Core.Path.{◌≡◌, sym, ap, ap₂, ◌∙◌, subst}
-use Rattle.answers.specs.declared.Verdict.{Verdict}
+use Rattle.std.proofs.Common.{sym, ap, ap₂, ◌∙◌, subst}
 use Rattle.answers.specs.Answers.{also, told}
-use Rattle.sheet.specs.Calls.{judge_of}
 use Rattle.sheet.specs.Tasks.{lacks}
 use Rattle.chain.specs.Conditions.{Lacking}
-use borrow.Author.Rules.{rules}
 use Rattle.chain.proofs.lacking.Goals as goal
 
 pub returns-in_default : goal.returns-in_default

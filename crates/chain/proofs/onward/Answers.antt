@@ -1,6 +1,5 @@
 -- One task is told from more by the chain's length.
-use borrow.Author.Tests.{eq-eqb, ne_eqb}
-use mathlib.Core.Path.{refl}
+use Rattle.std.proofs.Common.{refl, eq-eqb, ne_eqb}
 use Rattle.chain.proofs.onward.Goals as goal
 
 pub returns-then-chain-eq1 : goal.returns-then-chain-eq1

@@ -4,24 +4,14 @@ use native.Mathlib.Omega.{arith}
 use lib.ListN.{length}
 use mir.Syntax.{w32}
 use mir.ValLaws.{to_z-of_z}
-use Rattle.answers.specs.Answers.{given, after, refusal}
+use Rattle.answers.specs.Answers.{given, refusal}
 use Rattle.schedule.specs.Calls.{table_after}
 use Rattle.sheet.specs.Tasks.{tasks_of}
 use Rattle.chain.specs.declared.answer.Figure.{Figure}
-use Rattle.chain.specs.Calls.{less, figures_of, margin_of, told_figures, figures_refusal}
+use Rattle.chain.specs.Calls.{less, figures_of, told_figures, figures_refusal}
 use Rattle.chain.specs.CallLaws.{answers_no, answers_given, over_untouched, margin_over, margin_asked, figures_given}
 use Rattle.chain.specs.Largest.{worst_most}
-use borrow.Author.Rules.{rules}
-use Rattle.chain.proofs.margin.Goals.{Else-limit-gt-MOST_LIMIT, In-Of-2}
 use Rattle.chain.proofs.margin.Goals as goal
-
-asked : (c : Else-limit-gt-MOST_LIMIT) → let a = c.args in
-    margin_of a.s a.number a.limit (length a.table-1.now) ≡ after (figures_of a.s a.number (length a.table-1.now)) (λ x. given (less a.limit x.worst))
-asked c = let a = c.args in margin_asked a.s a.number (length a.table-1.now) a.limit c.if-limit-gt-MOST_LIMIT.false
-
--- The figures are given.
-known : (c : In-Of-2) → let a = c.args in figures_of a.s a.number (length a.table-1.now) ≡ given c.in-Of.summary
-known c = sym c.figures-filled.ensures.0.0 ∙ ap told_figures c.in-Of.is
 
 pub returns-then-limit-gt-MOST_LIMIT : goal.returns-then-limit-gt-MOST_LIMIT
 returns-then-limit-gt-MOST_LIMIT c =
@@ -35,7 +25,7 @@ pub returns-in_default : goal.returns-in_default
 returns-in_default c =
     let a = c.args in
     let is = c.in_default.is in
-    rw (asked (goal.at.returns-in_default c).Else-limit-gt-MOST_LIMIT)
+    rw (margin_asked a.s a.number (length a.table.now) a.limit c.if-limit-gt-MOST_LIMIT.false)
     (answers_no a.s a.table.now _ c.figures_refusal.result
     (sym c.figures-filled.ensures.0.0 ∙ ap told_figures is ∙ ap refusal (sym (c.figures_refusal.ensures ∙ ap figures_refusal is)))
     c.figures-filled.ensures.0.1)
@@ -43,12 +33,14 @@ returns-in_default c =
 pub less_of-requires : goal.less_of-requires
 less_of-requires c =
     let a = c.args in
-    let g = figures_given a.s a.number (length a.table.now) (known (goal.at.less_of-requires c).In-Of-2) in
-    (c.if-limit-gt-MOST_LIMIT.left, omega (arith, g.worst_is, ap (λ (c : Figure). c.ticks) g.sampling_is, worst_most g.taken))
+    let known : figures_of a.s a.number (length a.table.now) ≡ given c.in-Of.summary = sym c.figures-filled.ensures.0.0 ∙ ap told_figures c.in-Of.is in
+    let g = figures_given a.s a.number (length a.table.now) known in
+    (c.if-limit-gt-MOST_LIMIT.false, omega (arith, g.worst_is, ap (λ (c : Figure). c.ticks) g.sampling_is, worst_most g.taken))
 
 pub returns : goal.returns
 returns c =
     let a = c.args in
-    let read = to_z-of_z w32 c.less_of.result (record { sfits = c.less_of.type-inv }) in
-    rw (asked (goal.at.returns c).Else-limit-gt-MOST_LIMIT, read)
-    (answers_given a.s a.table.now _ (known (goal.at.returns c).In-Of-2) (ap given (sym c.less_of.ensures)) c.figures-filled.ensures.0.1)
+    let known : figures_of a.s a.number (length a.table.now) ≡ given c.in-Of.summary = sym c.figures-filled.ensures.0.0 ∙ ap told_figures c.in-Of.is in
+    let read = to_z-of_z w32 c.less_of.result (record { sfits = c.less_of.type_inv }) in
+    rw (margin_asked a.s a.number (length a.table.now) a.limit c.if-limit-gt-MOST_LIMIT.false, read)
+    (answers_given a.s a.table.now _ known (ap given (sym c.less_of.ensures)) c.figures-filled.ensures.0.1)

@@ -8,7 +8,6 @@ use Rattle.sheet.specs.Conversions.{old_limit}
 use Rattle.sheet.specs.Tasks.{limit_of}
 use Rattle.chain.specs.Calls.{report_limit}
 use Rattle.chain.specs.SuiteLaws.{report_most}
-use borrow.Author.Rules.{rules}
 use Rattle.chain.proofs.report_limit.Goals as goal
 
 pub returns-then-s-eq1 : goal.returns-then-s-eq1

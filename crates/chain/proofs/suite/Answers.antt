@@ -5,28 +5,23 @@ use Rattle.answers.specs.Answers.{given}
 use Rattle.schedule.specs.Calls.{responses_of, told_totals}
 use Rattle.chain.specs.Calls.{summaries_after}
 use Rattle.chain.specs.CallLaws.{filled_ready}
-use borrow.Author.Rules.{rules}
-use Rattle.chain.proofs.suite.Goals.{After-task_responses-filled, In-Table-2}
 use Rattle.chain.proofs.suite.Goals as goal
-
--- The table is filled.
-module _ (c : In-Table-2) where
-  abbrev done : After-task_responses-filled
-  done = c
-
-  filled : responses_of (start done).args.s (length (start done).args.table.now) ≡ given c.in-Table.totals
-  filled = sym done.task_responses-filled.ensures.0.0 ∙ ap told_totals c.in-Table.is
 
 pub returns-in_default : goal.returns-in_default
 returns-in_default c =
     let r = c.task_responses-filled in
-    (r.ensures.0, r.ensures.1, c.no_summaries-chains.ensures ∙ sym (ap (λ a. summaries_after a c.args.s) (sym r.ensures.0.0 ∙ ap told_totals c.in_default.is)))
+    let refused = sym r.ensures.0.0 ∙ ap told_totals c.in_default.is in
+    (r.ensures.0, r.ensures.1, c.no_summaries-chains.ensures ∙ sym (ap (λ a. summaries_after a c.args.s) refused))
 
 pub each_summary-chains-requires : goal.each_summary-chains-requires
 each_summary-chains-requires c =
-    filled_ready (start (done (goal.at.each_summary-chains-requires c).In-Table-2)).args.s (start (done (goal.at.each_summary-chains-requires c).In-Table-2)).args.table.now (filled (goal.at.each_summary-chains-requires c).In-Table-2) (done (goal.at.each_summary-chains-requires c).In-Table-2).task_responses.ensures.0.1
+    let r = c.task_responses-filled in
+    let filled : responses_of c.args.s (length c.args.table.now) ≡ given c.in-Table.totals = sym r.ensures.0.0 ∙ ap told_totals c.in-Table.is in
+    let ready = filled_ready c.args.s c.args.table.now filled r.ensures.0.1 in
+    record { sound = ready.0; hyperperiod_value = ready.1.0; holds = ready.1.1 }
 
 pub returns : goal.returns
 returns c =
-    let r = (done (goal.at.returns c).In-Table-2).task_responses in
-    ((sym (filled (goal.at.returns c).In-Table-2), r.ensures.0.1), r.ensures.1, c.each_summary-chains.ensures ∙ sym (ap (λ a. summaries_after a (start (done (goal.at.returns c).In-Table-2)).args.s) (filled (goal.at.returns c).In-Table-2)))
+    let r = c.task_responses-filled in
+    let filled : responses_of c.args.s (length c.args.table.now) ≡ given c.in-Table.totals = sym r.ensures.0.0 ∙ ap told_totals c.in-Table.is in
+    ((sym filled, r.ensures.0.1), r.ensures.1, c.each_summary-chains.ensures ∙ sym (ap (λ a. summaries_after a c.args.s) filled))

@@ -1,6 +1,5 @@
 -- The part of the table that is the task's row has its greatest response.
 use mathlib.Core.Path.{◌∙◌}
-use borrow.Author.Rules.{rules}
 use Rattle.chain.specs.ReadLaws.{part_greatest}
 use Rattle.chain.proofs.task_response.Goals as goal
 

@@ -11,7 +11,7 @@ use Rattle.sheet.specs.TaskLaws.{chain_length, chain_most}
 use Rattle.lower.specs.Conditions.{ChainOn}
 use Rattle.lower.specs.CallLaws.{one_known, one_chain}
 
-module _ {s : Sheet} (ok : Sound s) {r : Chain} (is : (r ≡ chain_at s 1) × (length r.entries ≡ 16)) where
+module _ (s : Sheet) (ok : Sound s) {r : Chain} (is : (r ≡ chain_at s 1) × (length r.entries ≡ 16)) where
   whole : length (chain_at s 1).entries ≡ 16
   whole = ap (λ (x : Chain). length x.entries) (sym is.0) ∙ is.1
 
@@ -19,10 +19,10 @@ module _ {s : Sheet} (ok : Sound s) {r : Chain} (is : (r ≡ chain_at s 1) × (l
   lent = ap (λ (x : Chain). take x.length x.entries) is.0
 
   pub lent_length : r.length ≡ length (take r.length r.entries)
-  lent_length = ap (λ (x : Chain). x.length) is.0 ∙ sym (ap length lent ∙ chain_length _ ok 1 (one_known ok) whole)
+  lent_length = ap (λ (x : Chain). x.length) is.0 ∙ sym (ap length lent ∙ chain_length _ ok 1 (one_known _ ok) whole)
 
   pub lent_most : r.length ≤ 16
-  lent_most = omega (arith, lent_length, ap length lent, chain_most _ ok 1 (one_known ok))
+  lent_most = omega (arith, lent_length, ap length lent, chain_most _ ok 1 (one_known _ ok))
 
   pub lent_chain : ChainOn s (chain_of s 1)
   lent_chain = one_chain ok whole

@@ -42,10 +42,10 @@ module _ {old new : Sheet} (below : DifferBelow old new) (ok : Sound old) (ok' :
   one = chain_of old 1
 
   pub first_chain : Chain ts (first_of one) (rest_of one)
-  first_chain = chain_known _ ok 1 (one_known ok)
+  first_chain = chain_known _ ok 1 (one_known _ ok)
 
   second_chain : Chain us (first_of one) (rest_of one)
-  second_chain = subst (λ c. Chain us (first_of c) (rest_of c)) (sym below.same_chain_lem) (chain_known _ ok' 1 (one_known ok'))
+  second_chain = subst (λ c. Chain us (first_of c) (rest_of c)) (sym below.same_chain_lem) (chain_known _ ok' 1 (one_known _ ok'))
 
   same_there : (j : ℕ) → HoldsSame old new j → get_or ts j none ≡ get_or us j none
   same_there j h =

@@ -83,13 +83,13 @@ none_least n test l j h = go (test j) refl
 -- ---- a sheet that is accepted
 
 -- A sheet whose fields are fine has a chain one, whose entries are tasks.
-pub one_known : {s : Sheet} → Sound s → lacks s 1 ≡ fine
-one_known {s} sound = number_known s 1 (le_refl _) (omega (arith, chain_count_lem _ sound, sound.chains_least))
+pub one_known : (s : Sheet) → Sound s → lacks s 1 ≡ fine
+one_known s sound = number_known s 1 (le_refl _) (omega (arith, chain_count_lem _ sound, sound.chains_least))
 
 pub one_chain : {s : Sheet} → Sound s → length (chain_at s 1).entries ≡ 16 → ChainOn s (chain_of s 1)
 one_chain {s} sound whole = record {
-  some = omega (arith, chain_length _ sound 1 (one_known sound) whole, sound.length_least 0 (chain_place _ sound 1 (one_known sound)));
-  entry_below = λ e l. omega (arith, entry_listed _ sound 1 (one_known sound) e l, tasks_length _ sound);
+  some = omega (arith, chain_length _ sound 1 (one_known _ sound) whole, sound.length_least 0 (chain_place _ sound 1 (one_known _ sound)));
+  entry_below = λ e l. omega (arith, entry_listed _ sound 1 (one_known _ sound) e l, tasks_length _ sound);
 }
 
 module _ (s : Sheet) where
@@ -103,7 +103,7 @@ module _ (s : Sheet) where
   accept_late {size} sized = go (passing_greatest (tasks_of s) (length (tasks_of s))) refl
     where
       has : lacks s 1 ≡ fine
-      has = one_known (judged_sound s (sizes_given s sized).judged_fine)
+      has = one_known _ (judged_sound s (sizes_given s sized).judged_fine)
 
       go : (x : Slot) → passing_greatest (tasks_of s) (length (tasks_of s)) ≡ x → acceptance s ≡ after (quick_of s 1) (λ bounds. fine)
       go idle q =
@@ -206,7 +206,7 @@ pub difference_fields : {old new : Sheet} → Sound old → Sound new → (i : �
     → eqb (get_or old.tasks i none).budget (get_or new.tasks i none).budget ≡ c
     → eqb (get_or old.tasks i none).rank (get_or new.tasks i none).rank ≡ d
     → difference_at old new i ≡ cond b (cond c (cond d Clear (Blocked Rank)) (Blocked Budget)) (Blocked Period)
-difference_fields {old} {new} ok ok' i l m p q r = rw (
+difference_fields old {new} ok ok' i l m p q r = rw (
   lt-ltb i old.count l,
   lt-ltb i new.count m,
   period_at _ ok i l,
@@ -271,4 +271,4 @@ not_blocked (Blocked d) e = absurd (false≢true (sym e))
 
 -- No sheet has a task past the sixteen places.
 pub way_past : {old new : Sheet} → Sound old → Sound new → (i : ℕ) → 16 ≤ i → way_at old new i ≡ Clear
-way_past {old} {new} ok ok' i l = rw (past_counts old i (omega (arith, ok.count_most)), past_counts new i (omega (arith, ok'.count_most)))
+way_past old {new} ok ok' i l = rw (past_counts old i (omega (arith, ok.count_most)), past_counts new i (omega (arith, ok'.count_most)))

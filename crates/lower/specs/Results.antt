@@ -117,7 +117,7 @@ module _ (old new : Sheet) where
     eq-eqb old.edition 2 c.old_edition,
     eq-eqb new.edition 2 c.new_edition,
     equal_same_entries (chain_of old 1) (chain_of new 1) c.differ_below.same_chain_lem,
-  ) (ap (λ i. standing i (way_at old new i)) none_blocked ∙ ap (standing 16) (way_past (accepted_sound old c.old_accepted) (accepted_sound new c.new_accepted) 16 (omega arith)))
+  ) (ap (λ i. standing i (way_at old new i)) none_blocked ∙ ap (standing 16) (way_past _ (accepted_sound old c.old_accepted) (accepted_sound new c.new_accepted) 16 (omega arith)))
     where
       clear : (i : ℕ) → way_at old new i ≡ Clear
       clear i = way_clear old new i
@@ -224,10 +224,10 @@ module _ {old new : Sheet} (below : DifferBelow old new) where
 
       bounds : bound_by (tasks_of old) (chain_of old 1) ≡ bound_by (tasks_of new) (chain_of new 1)
       bounds =
-          quick_bound_same (given_accepted old 1 answer).proper (first_of (chain_of old 1)) (rest_of (chain_of old 1)) (chain_known _ ok 1 (one_known ok))
+          quick_bound_same (given_accepted old 1 answer).proper (first_of (chain_of old 1)) (rest_of (chain_of old 1)) (chain_known _ ok 1 (one_known _ ok))
           ∙ (figures_same below ok ok' (given_accepted old 1 answer) (given_accepted new 1 answer')).same_bound
           ∙ ap (λ c. bound (tasks_of new) (task_response (tasks_of new)) (first_of c) (rest_of c)) below.same_chain_lem
-          ∙ sym (quick_bound_same (given_accepted new 1 answer').proper (first_of (chain_of new 1)) (rest_of (chain_of new 1)) (chain_known _ ok' 1 (one_known ok')))
+          ∙ sym (quick_bound_same (given_accepted new 1 answer').proper (first_of (chain_of new 1)) (rest_of (chain_of new 1)) (chain_known _ ok' 1 (one_known _ ok')))
 
       wait : flag_wait (tasks_of old) (first_of (chain_of old 1)) ≡ flag_wait (tasks_of new) (first_of (chain_of new 1))
       wait = ap (λ T. T - 1) (first_period_same below ok ok') ∙ ap (λ c. flag_wait (tasks_of new) (first_of c)) below.same_chain_lem
@@ -239,7 +239,7 @@ accepted_figures s e room l =
     let f = after_given (responses_of s most_jobs) _ e in
     let g = responses_given s most_jobs f.1 in (
       summary_at s 1 f.0,
-      figures_known s 1 (one_known (judged_sound s g.judged_fine)) room ∙ ap (λ a. after a (λ totals. given (summary_at s 1 totals))) (given_responses s room (record {
+      figures_known s 1 (one_known _ (judged_sound s g.judged_fine)) room ∙ ap (λ a. after a (λ totals. given (summary_at s 1 totals))) (given_responses s room (record {
         judged_fine = g.judged_fine;
         accepted = g.accepted;
         hyperperiod_is = g.hyperperiod_is;

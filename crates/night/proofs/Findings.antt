@@ -71,7 +71,7 @@ module _ {ts : List Task} (accepted : Accepted ts) (p : ℕ) (rest : List ℕ) (
 
 -- ---- chain one of a sheet
 
-module _ {s : Sheet} (sound : Sound s) where
+module _ (s : Sheet) (sound : Sound s) where
   abbrev one : List ℕ
   one = chain_of s chain_one
 

@@ -159,7 +159,7 @@ outcome_computed s =
     outcome_judged s
     ∙ also_fine (judge_of s) _ _ (λ e.
     also_fine (lacks s 1) _ _ (λ known.
-    let good = sound_proper _ _ (judged_sound s e) in
+    let good = sound_proper _ (judged_sound s e) in
     ap₂ (λ x y. also (when (ltb most_ticks (hyperperiod (tasks_of s))) 10) (also (when (ltb most_jobs (all_jobs (tasks_of s))) 11) (also (when (ltb most_jobs (all_jobs (tasks_of s))) 14) (also (lateness x) (given y)))))
     (greatest_cleared good (length (tasks_of s)) (omega arith))
-    (figures_cleared good (first_of (chain_of s 1)) (rest_of (chain_of s 1)) (chain_known _ _ (judged_sound s e) 1 known))))
+    (figures_cleared good (first_of (chain_of s 1)) (rest_of (chain_of s 1)) (chain_known _ (judged_sound s e) 1 known))))

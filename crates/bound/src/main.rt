@@ -1,5 +1,7 @@
 // The quick bound of each chain of one timing sheet, read from standard input, with no table and whatever the hyperperiod: the response of
 // each task, then the chains, each with its bound; or the refusal.
+#![tactic(auto)]
+
 use answers::Verdict;
 use recurrence::Bounds;
 use sheet::Sheet;

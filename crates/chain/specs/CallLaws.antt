@@ -7,7 +7,6 @@ use Rattle.theory.specs.Model.Flag.{from_flag}
 use Rattle.theory.specs.declared.Task.{Task}
 use Rattle.theory.specs.Model.Schedule.{period, release}
 use Rattle.theory.specs.Model.Responses.{hyperperiod}
-use Rattle.theory.specs.Model.Chain.{delay}
 use Rattle.answers.specs.declared.Refusal.{Refusal}
 use Rattle.answers.specs.declared.Verdict.{Verdict}
 use Rattle.answers.specs.declared.Verdict.TheVariants.{Fine, No}

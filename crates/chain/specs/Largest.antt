@@ -1,18 +1,17 @@
 -- The largest figures: how long a hand-over and a chain can take where periods and responses are at most 100,000 ticks.
 use mathlib.Core.List.{List, [], ◌∷◌}
-use Rattle.std.specs.Prelude.{Bool, cond, ℕ, suc, ◌+◌, ◌-◌, ◌*◌, ◌/◌, ◌≤◌, ◌<◌, get_or}
+use Rattle.std.specs.Prelude.{Bool, cond, ℕ, suc, ◌+◌, ◌*◌, ◌/◌, ◌≤◌, ◌<◌, get_or}
 use Rattle.std.proofs.Math.Bool.{true, false}
-use Rattle.std.proofs.Math.Nat.{le_of_dvd}
 use Rattle.std.proofs.Common.{le_trans}
 use native.Mathlib.Omega.{arith}
 use Rattle.std.proofs.Math.ListN.{length, length-drop}
-use Rattle.arith.specs.Whole.{gcd, up}
-use Rattle.arith.specs.WholeLaws.{gcd_divides_right, gcd_pos, up_near}
+use Rattle.arith.specs.Whole.{up}
+use Rattle.arith.specs.WholeLaws.{up_near}
 use Rattle.arith.specs.RangeLaws.{maximum_least}
 use Rattle.theory.specs.Model.Flag.{from_flag}
 use Rattle.theory.specs.declared.Task.{Task}
 use Rattle.theory.specs.Model.Schedule.{period, release}
-use Rattle.theory.specs.Model.Chain.{Chain, Waits, Table, walk_next, walk_delay, walk_bound, outranked, delay, sampling, bound}
+use Rattle.theory.specs.Model.Chain.{Waits, Table, walk_next, walk_delay, outranked, delay, sampling, bound}
 use Rattle.theory.specs.Model.Responses.{response, jobs, task_response}
 use Rattle.theory.proofs.Analysis.Repetition.{response_period}
 use Rattle.theory.proofs.Analysis.Largest.{Along, along_first, along_chain, SmallTask, bound_most}

@@ -1,7 +1,7 @@
 -- The numbers of refusal that the calls may give.
 use Rattle.std.specs.Prelude.{ℕ, ltb}
 use Rattle.std.proofs.Common.{arith}
-use Rattle.answers.specs.Answers.{Answer, given, after, also, refusal}
+use Rattle.answers.specs.Answers.{Answer, given, after, also}
 use Rattle.answers.specs.NumberLaws.{Numbered, given_numbered, when_numbered, after_numbered, also_numbered, Never, refused_only, when_only, after_only, also_only}
 use Rattle.sheet.specs.declared.Sheet.{Sheet}
 use Rattle.sheet.specs.Fields.{outside}

@@ -6,7 +6,7 @@ use Rattle.theory.specs.declared.Task.{Task}
 use Rattle.theory.specs.Model.Schedule.{period, release, Demands, Within, Run, Schedule}
 use Rattle.theory.specs.Model.Responses.{full, response, hyperperiod}
 use Rattle.theory.proofs.Analysis.Repetition.{response_again}
-use Rattle.theory.specs.Model.Chain.{delay, sampling, bound, PathEnds, Rising}
+use Rattle.theory.specs.Model.Chain.{delay, sampling, PathEnds, Rising}
 use Rattle.theory.specs.Model.Readings.{Arrives}
 use Rattle.theory.proofs.Analysis.ChainLaws.{delay_turns}
 use Rattle.theory.proofs.Analysis.Paths.{path_within, path_exists, path_exact}

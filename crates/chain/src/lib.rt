@@ -1,6 +1,8 @@
 // The chain: its delay at a release, its sampling figure and quick bound, and from a flag on its worst, bound and margin; or the first
 // refusal. Each call works the responses out afresh and leaves them in the lent table, from which a walk along the chain reads them.
 // What is answered and left in the table is defined in specs/Calls.antt; what that says of every schedule stands in specs/Results.antt.
+#![tactic(auto)]
+
 mod answer;
 
 ghost use Rattle.std.specs.Prelude.{◌≡◌, ◌+◌, ◌-◌, ◌*◌, ◌≤◌, ◌<◌, length, replicate};

@@ -1,4 +1,6 @@
 // The report of one timing sheet, read from standard input: document 01's lines, those of a chain once for each, or the refusal.
+#![tactic(auto)]
+
 use answers::Verdict;
 use chain::Summary;
 use schedule::{Responses, Totals};

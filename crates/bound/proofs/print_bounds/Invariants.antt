@@ -1,6 +1,5 @@
 -- It goes once over the eight places, and ends where the sheet's chains do.
 use Prim.Native.Nat.{◌-◌, ◌≤◌}
-use borrow.Author.Rules.{rules}
 use Rattle.bound.proofs.print_bounds.Given as goal
 
 abbrev pub invariant-loop-k : goal.invariant-loop-k

@@ -1,7 +1,7 @@
 -- The plan and the table hold what the chain's own delay is made of.
 use mathlib.Core.Path.{◌≡◌, ap, ◌∙◌}
 use native.Mathlib.Omega.{arith}
-use lib.ListN.{length, take}
+use lib.ListN.{take}
 use Rattle.sheet.specs.Tasks.{tasks_of, chain_of}
 use Rattle.chain.specs.Conditions.{TakenChain, delay_in}
 use Rattle.chain.specs.CallLaws.{sheet_chain}

@@ -8,7 +8,7 @@ use Rattle.answers.specs.Answers.{given, refusal}
 use Rattle.schedule.specs.Calls.{table_after}
 use Rattle.sheet.specs.Tasks.{tasks_of}
 use Rattle.chain.specs.declared.answer.Figure.{Figure}
-use Rattle.chain.specs.Calls.{less, figures_of, told_figures, figures_refusal}
+use Rattle.chain.specs.Calls.{figures_of, told_figures, figures_refusal}
 use Rattle.chain.specs.CallLaws.{answers_no, answers_given, over_untouched, margin_over, margin_asked, figures_given}
 use Rattle.chain.specs.Largest.{worst_most}
 use Rattle.chain.proofs.margin.Goals as goal

@@ -1,6 +1,5 @@
 -- It goes once over the eight places, and ends at the first number that the sheet lacks.
 use Prim.Native.Nat.{◌-◌, ◌≤◌}
-use borrow.Author.Rules.{rules}
 use Rattle.report.proofs.print_chains.Given as goal
 
 abbrev pub invariant-loop-k : goal.invariant-loop-k

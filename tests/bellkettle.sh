@@ -311,7 +311,7 @@ fails "$room/nowhere: no temporary folder can be made there; "
 
 # A path with the usual commands and no kit.
 mkdir "$room/kitless"
-for tool in cat dirname env git head mktemp readlink rm sed sh uname; do
+for tool in cat dirname env git head mktemp readlink rm sed sh; do
     ln -s "$(command -v "$tool")" "$room/kitless/$tool"
 done
 try 'no kit' env -u RATTLE_HOME PATH="$room/kitless" ./bellkettle report samples/radio.sheet
@@ -323,58 +323,67 @@ fails "kit not found: $room has "
 
 # The first run. A tree has two crates, and its name spaces. The kit that plays keeps a line for each time it was started.
 
-mkdir "$room/plays"
-cat >"$room/plays/rt" <<'EOF'
+mkdir -p "$room/plays/bin"
+cp "$kit/KIT-ID" "$room/plays"
+cat >"$room/plays/bin/rt" <<'EOF'
 #!/bin/sh
-# rt version and rt check, as far as the launcher sees them. $PLAY is what is to happen.
-[ "$1" != version ] || { cat "$RATTLE_HOME/KIT-ID" && exit; }
-echo "$*" >>"$ROOM/started"
+# rt version, rt lib and rt run, as far as the launcher sees them. $PLAY is what is to happen.
+[ "$1" != version ] || { cat "${0%/bin/rt}/KIT-ID" && exit; }
+crate=$(basename "$(pwd)")
+echo "$crate $*" >>"$ROOM/started"
 echo left >"$TMPDIR/left"
-mkdir -p target/bin target/log target/obj target/rlib/lower.rlib target/rlib/report.rlib target/stamp
-rm -f target/stamp/report
-proved() { echo "$1" >"target/log/$1.out" && echo stamp >"target/stamp/$1" && echo "rt: $1 proved (1 s)"; }
-case $PLAY in
-fails)
-    echo 'fn lower::up: not proved' | tee target/log/lower.out
-    echo 'rt: lower NOT PROVED (exit 1, 1 s)'
-    echo 'rt: report NOT PROVED: its dependency lower is not proved'
-    exit 1
+mkdir -p out
+case "$crate $1" in
+'lower lib')
+    mkdir -p out/rlib/lower.rlib
+    rm -f out/rlib/stamp
+    case $PLAY in
+    fails)
+        echo './proofs/up/Answers.antt:1:1: error: `returns`: it does not follow'
+        echo 'fn lower::up: not proved'
+        exit 1
+        ;;
+    breaks) echo 'rt: crates.txt: line 1: expected NAME: DEP DEP ...' && exit 2 ;;
+    esac
+    echo stamp >out/rlib/stamp
     ;;
-breaks) echo 'rt: crates.txt: line 1: expected NAME: DEP DEP ...' && exit 2 ;;
-differs)
-    cp "$PROGRAM" target/bin/report
-    echo 'rt: report proved (1 s)'
-    echo 'rt: report proved, and its run FAILED (1 s)'
-    exit 1
+'report run')
+    echo half >out/report
+    case $PLAY in
+    HUP | INT | TERM)
+        sleep 100 &
+        echo $! >"$ROOM/sleeper"
+        kill -s "$PLAY" "$(cat "$ROOM/launcher")"
+        wait
+        ;;
+    esac
+    sleep "${SECONDS_TAKEN:-0}"
+    rm out/report && cp "$PROGRAM" out/report
+    echo stamp >out/report.stamp
+    echo 'rt: running out/report; to give it other input, run that file yourself' >&2
+    [ "$PLAY" != differs ] || exec echo wrong
+    exec cat stdout
     ;;
-HUP | INT | TERM)
-    proved lower
-    echo half >target/bin/report
-    sleep 100 &
-    echo $! >"$ROOM/sleeper"
-    kill -s "$PLAY" "$PPID"
-    wait
-    ;;
+*) echo "rt: $* in $crate" && exit 2 ;;
 esac
-proved lower
-sleep "${SECONDS_TAKEN:-0}"
-cp "$PROGRAM" target/bin/report
-proved report
 EOF
-chmod +x "$room/plays/rt"
-export ROOM="$room" PROGRAM="$here/target/bin/report" RATTLE_HOME="$kit" PATH="$room/plays:$PATH" PLAY=succeeds
+chmod +x "$room/plays/bin/rt"
+export ROOM="$room" PROGRAM="$here/target/bin/report" PATH="$room/plays/bin:$PATH" PLAY=succeeds
+unset RATTLE_HOME
 
 tree="$room/a tree"
 plant() { # a tree that was never built
     rm -rf "$tree" "$room/started"
     mkdir -p "$tree/crates/lower/src" "$tree/crates/report/src"
+    echo sheet >"$tree/crates/report/stdin"
+    echo report >"$tree/crates/report/stdout"
     cp -R bellkettle tools samples "$tree"
     printf 'lower: # nothing\nreport: lower io libc\nother: lower\n' >"$tree/crates.txt"
     echo 'pub fn up() {}' >"$tree/crates/lower/src/lib.rt"
     echo 'fn main() {}' >"$tree/crates/report/src/main.rt"
 }
 started() { # TIMES
-    [ "$(grep -c '^check report$' "$room/started" 2>/dev/null)" -eq "$1" ] || wrong "rt expected to be started $1 times"
+    [ "$(grep -c '^lower lib$' "$room/started" 2>/dev/null)" -eq "$1" ] || wrong "rt expected to be started $1 times"
 }
 report() { "$tree/bellkettle" report "$tree/samples/radio.sheet"; }
 runs() { # PROCESS: one that has ended may still wait to be reaped
@@ -383,7 +392,7 @@ runs() { # PROCESS: one that has ended may still wait to be reaped
 
 plant
 try 'no such file, before anything is built' "$tree/bellkettle" report nothing.sheet
-fails 'nothing.sheet: there is no such file; ' && [ ! -e "$tree/target" ] && [ ! -e "$room/started" ] || wrong 'nothing expected to be built'
+fails 'nothing.sheet: there is no such file; ' && [ ! -e "$tree/target" ] && [ ! -e "$tree/crates/lower/out" ] && [ ! -e "$room/started" ] || wrong 'nothing expected to be built'
 try 'the first run' report
 ends 0 && prints samples/radio.report && started 1
 says '^bellkettle: proving and building report from 2 crates; ' && says '^bellkettle: lower is proved, 1 of 2$' && says '^bellkettle: report is proved, 2 of 2$'
@@ -439,12 +448,13 @@ PLAY=fails
 try 'a crate that is not proved' report
 ends 3 && prints_nothing && says "^bellkettle: crate lower is not proved, so report is not built; $tree/target/log/lower.out says why" && says '^fn lower::up: not proved$'
 [ "$(cd "$tree/target" && find . -type f)" = ./log/lower.out ] || wrong 'nothing but the log expected to be left'
+[ "$(cd "$tree" && find crates -path '*/out/*')" = '' ] || wrong 'no half-built library expected'
 PLAY=breaks
 try 'a kit that fails' report
-ends 3 && prints_nothing && says "^bellkettle: 'rt check report' in $tree ended with status 2, and said" && says '^rt: crates.txt: line 1'
+ends 3 && prints_nothing && says "^bellkettle: 'rt lib' in $tree/crates/lower ended with status 2, and said" && says '^rt: crates.txt: line 1'
 PLAY=differs
 try 'a program that does not print what it must' report
-ends 3 && prints_nothing && says '^rt: report proved, and its run FAILED' && [ ! -e "$tree/target/bin" ] || wrong 'no program expected to be left'
+ends 3 && prints_nothing && says '^bellkettle: crate report is proved, and its program did not print what it must' && [ ! -e "$tree/target/bin" ] || wrong 'no program expected to be left'
 PLAY=succeeds
 try 'a run after others that failed' report
 ends 0 && prints samples/radio.report && started 4
@@ -453,10 +463,10 @@ for signal in HUP:129 INT:130 TERM:143; do
     plant
     PLAY=${signal%:*}
     # A shell in the background ignores INT, and so would all that it starts.
-    try "a build interrupted by $PLAY" env --default-signal="$PLAY" "$tree/bellkettle" report "$tree/samples/radio.sheet"
+    try "a build interrupted by $PLAY" env --default-signal="$PLAY" sh -c 'echo $$ >"$ROOM/launcher" && exec "$@"' sh "$tree/bellkettle" report "$tree/samples/radio.sheet"
     ends "${signal#*:}" && prints_nothing && says '^bellkettle: interrupted with [01] of 2 crates proved; '
     ! runs "$(cat "$room/sleeper")" || wrong 'every process of the build expected to have ended'
-    [ ! -e "$tree/target/bin" ] && [ ! -e "$tree/target/rlib/report.rlib" ] && [ -d "$tree/target/rlib/lower.rlib" ] || wrong 'no half-built program expected, and the proved crate'
+    [ ! -e "$tree/target/bin" ] && [ ! -e "$tree/crates/report/out/report" ] && [ -e "$tree/crates/lower/out/rlib/stamp" ] || wrong 'no half-built program expected, and the proved crate'
     leaves_nothing
     PLAY=succeeds
     try "a run after $signal" report

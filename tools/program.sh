@@ -24,18 +24,17 @@ trap 'ended_by TERM' TERM
 room=$(mktemp -d 2>/dev/null) || stop "${TMPDIR:-/tmp}: no temporary folder can be made there; set TMPDIR to a folder that may be written"
 
 become() { # NAME: with the script's standard input and output
-    exec ${emulator:+"$emulator"} "$library/ld-linux-x86-64.so.2" --library-path "$library" "$root/target/bin/$1"
+    exec "$root/target/bin/$1"
 }
 
 ready() { # NAME: proves and builds it unless it stands there, built by this kit from the sources as they are
-    . "$root/tools/kit.sh"
-    program=$root/target/bin/$1 record=$root/target/built/$1
-    crates=$(crates_of "$1")
+    of_program "$1"
     ! is_current || return 0
-    mkdir -p "$root/target" 2>/dev/null && [ -w "$root/target" ] && [ -w "$root/crates.txt" ] ||
+    mkdir -p "$root/target" 2>/dev/null && [ -w "$root/target" ] && [ -w "$root/crates.txt" ] && [ -w "$root/crates/$1" ] ||
         stop "$root: $1 has to be proved and built anew, and you may not write this folder; have its owner run this once, or copy the folder"
     need setsid util-linux
     need flock util-linux
+    need python3 python3
     # A lock on a file that is there anyway, so that none is left; a build that outlives this script still holds it.
     exec 9>>"$root/crates.txt"
     waits=''
@@ -48,18 +47,25 @@ ready() { # NAME: proves and builds it unless it stands there, built by this kit
     exec 9>&-
 }
 
+of_program() { # NAME: where it is kept, what it was built from, and the crates that it needs
+    . "$root/tools/kit.sh"
+    program=$root/target/bin/$1 record=$root/target/built/$1
+    crates=$(crates_of "$1")
+}
+
 take_lock() { # fails only while another has it: on a disk that knows no locks a build goes on without
     flock -n -E 75 9 2>/dev/null || [ $? -ne 75 ]
 }
 
-crates_of() { # NAME: it and every crate of the repository that it needs
+crates_of() { # NAME: it and every crate of the repository that it needs, each after those that it uses
     awk -v name="$1" '
         { sub(/#.*/, "") }
-        split($0, side, ":") == 2 { gsub(/[ \t]/, "", side[1]); needs[side[1]] = side[2] }
-        function visit(crate, each, k) {
+        split($0, side, ":") == 2 { split(side[1], head); needs[head[1]] = side[2] }
+        function visit(crate, each, k, n) {
             if (!(crate in needs) || seen[crate]++) return
+            n = split(needs[crate], each)
+            for (k = 1; k <= n; k++) visit(each[k])
             print crate
-            for (k = split(needs[crate], each, " "); k > 0; k--) visit(each[k])
         }
         END { visit(name) }' "$root/crates.txt"
 }
@@ -70,20 +76,31 @@ is_current() {
         cd "$root"
         {
             cat "$kit/KIT-ID" crates.txt
-            for crate in $crates; do find "crates/$crate" -type f \( -name '*.rt' -o -name '*.antt' \) -exec sha256sum {} + 2>/dev/null; done | sort
+            for crate in $crates; do
+                find "crates/$crate" -name out -prune -o -type f \( -name '*.rt' -o -name '*.antt' \) -exec sha256sum {} + 2>/dev/null
+            done | sort
         } | sha256sum
     )
     [ -x "$program" ] && [ "$(cat "$record" 2>/dev/null)" = "$sum" ]
+}
+
+keep() { # NAME: what stands built of it in its crate's folder is the program that is run from here on
+    mkdir -p "$root/target/bin" "$root/target/built"
+    rm -f "$record"
+    cp "$root/crates/$1/out/$1" "$program.new"
+    mv "$program.new" "$program"
+    echo "$sum" >"$record.new"
+    mv "$record.new" "$record"
 }
 
 build() { # NAME
     total=$(echo "$crates" | wc -l) shown=0 began=$(date +%s)
     say "proving and building $1 from $total crates; the first time this takes some minutes"
     yard=$(mktemp -d)
-    chmod 711 "$yard" # rt runs what it has built as nobody where it is root
     rm -f "$record"
     : >"$yard/said"
-    (cd "$root" && TMPDIR=$yard exec setsid rt check "$1") >"$yard/said" 2>&1 </dev/null 3<&- &
+    # shellcheck disable=SC2086
+    (TMPDIR=$yard exec setsid "$root/tools/prove" $crates) >"$yard/said" 2>&1 </dev/null 3<&- &
     child=$! building=$1
     while kill -0 "$child" 2>/dev/null; do
         progress
@@ -93,15 +110,13 @@ build() { # NAME
     [ ! -t 2 ] || printf '\r%60s\r' '' >&2
     wait "$child" || not_built "$1" $?
     building=''
-    mkdir -p "$root/target/built"
-    echo "$sum" >"$record.new"
-    mv "$record.new" "$record"
+    keep "$1"
     say "$1 is proved and built, in $(($(date +%s) - began)) s"
 }
 
 progress() { # how far a build is: a line for each crate that was proved since the last call, on a terminal one line that moves
     count=0
-    for crate in $(sed -n 's/^rt: \([a-z0-9_]*\) proved (.*/\1/p' "$yard/said"); do
+    for crate in $(sed -n 's/^proved //p' "$yard/said"); do
         count=$((count + 1))
         [ -t 2 ] || [ "$count" -le "$shown" ] || say "$crate is proved, $count of $total"
     done
@@ -110,18 +125,33 @@ progress() { # how far a build is: a line for each crate that was proved since t
 }
 
 not_built() { # NAME STATUS: says which crate failed, and where to read on
-    failed=$(sed -n 's/^rt: \([a-z0-9_]*\) NOT PROVED.*/\1/p' "$yard/said" | head -n 1)
-    if [ -n "$failed" ]; then
-        say "crate $failed is not proved, so $1 is not built; $root/target/log/$failed.out says why, and ends"
-        tail -n 8 "$root/target/log/$failed.out"
-    else
-        say "'rt check $1' in $root ended with status $2, and said at last"
+    tail -n 1 "$yard/said" >"$yard/last"
+    read -r what crate ended command <"$yard/last" || true
+    log=$root/target/log/$crate.out
+    case $what in
+    refused)
+        say "crate $crate is not proved, so $1 is not built; $log says why:"
+        grep -E ': error: |^fn [^ ]*: (not proved|no proof: expected)' "$log" | head -n 8
+        ;;
+    differs)
+        say "crate $crate is proved, and its program did not print what it must, crates/$crate/stdout; it said at last"
+        tail -n 8 "$log"
+        ;;
+    stopped)
+        say "'$command' in $root/crates/$crate ended with status $ended, and said at last"
+        tail -n 8 "$log"
+        ;;
+    *)
+        say "'tools/prove' in $root ended with status $2, and said at last"
         tail -n 8 "$yard/said"
-    fi | cut -c 1-200 >&2
+        ;;
+    esac 2>&1 | cut -c 1-200 >&2
+    [ "$what" != refused ] || failed=$crate
     exit 3
 }
 
-# Ends a build that has not ended well. No process of it goes on; of crates that are not proved only the log of one that failed stays.
+# Ends a build that has not ended well. No process of it goes on; of crates that are not proved only the log of one that failed stays, and what
+# rt keeps of the work done, which is no library and no program.
 abandon() {
     kill -s TERM -- "-$child" 2>/dev/null || true
     for moment in 1 2 3 4 5 6 7 8 9; do
@@ -130,8 +160,16 @@ abandon() {
     done
     kill -s KILL -- "-$child" 2>/dev/null || true
     for crate in $crates; do
-        [ ! -e "$root/target/stamp/$crate" ] || continue
-        rm -rf "$root/target/rlib/$crate.rlib" "$root/target/obj/$crate.o" "$root/target/bin/$crate"
+        out=$root/crates/$crate/out
+        rm -rf "$out"/rt-work-*
+        if [ -e "$root/crates/$crate/src/main.rt" ]; then
+            [ -e "$out/$crate.stamp" ] || rm -f "$out/$crate" "$out/$crate.o"
+        elif [ ! -e "$out/rlib/stamp" ]; then
+            rm -rf "$out/rlib"
+        else
+            continue
+        fi
+        rmdir "$out" 2>/dev/null || true
         [ "$crate" = "$failed" ] || rm -f "$root/target/log/$crate".*
     done
     rmdir "$root/target"/* "$root/target" 2>/dev/null || true

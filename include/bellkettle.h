@@ -2,7 +2,7 @@
  * Bellkettle for programs in C: how long it takes along a chain until the stamp, from the change flag that asks for a reading or from
  * the release of the job that samples it.
  *
- * Link libbellkettle.a (x86-64 Linux), which `rt staticlib bellkettle` writes. Every function below is proved to answer what the
+ * Link libbellkettle.a (x86-64 Linux), which `rt lib` in crates/bellkettle writes to its out/. Every function below is proved to answer what the
  * firm's page "From sheet to worst delay: the rules" (document 01) and its requests (document 02) say, for every input, and to end. The
  * library allocates nothing, has no variables of its own and takes only memcpy and memset from C's, so threads may call it at once with
  * memory of their own.

@@ -7,7 +7,7 @@ room=$(mktemp -d)
 trap 'rm -rf "$room"' EXIT
 
 . tools/packages.sh
-need_compiler
-rt staticlib bellkettle >"$room/library" 2>&1 || { cat "$room/library" && exit 1; }
-"$compiler" -std=c11 -Wall -Wextra -Wconversion -Werror -O2 -static -Iinclude tests/host.c target/staticlib/libbellkettle.a -o "$room/host"
-${emulator:+"$emulator"} "$room/host"
+need cc gcc libc6-dev
+(cd crates/bellkettle && rt lib) >"$room/library" 2>&1 || { cat "$room/library" && exit 1; }
+cc -std=c11 -Wall -Wextra -Wconversion -Werror -O2 -static -Iinclude tests/host.c crates/bellkettle/out/libbellkettle.a -o "$room/host"
+"$room/host"

@@ -1,5 +1,7 @@
 // Whether two timing sheets differ only below chain one. The old sheet comes on standard input, the new one on file descriptor 3; the answer
 // goes to standard output: that it applies, what differs, or the refusal of one of them.
+#![tactic(auto)]
+
 use answers::{Refusal, Verdict};
 use lower::{Comparison, Difference, Which};
 use sheet::Sheet;

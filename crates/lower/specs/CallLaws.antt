@@ -201,12 +201,12 @@ module _ (s : Sheet) (i : ℕ) where
 -- ---- what differs there
 
 -- Of an index that both sheets have it is told by the fields of the task in that place.
-pub difference_fields : {old new : Sheet} → Sound old → Sound new → (i : ℕ) → i < old.count → i < new.count → {b c d : Bool}
+pub difference_fields : (old new : Sheet) → Sound old → Sound new → (i : ℕ) → i < old.count → i < new.count → {b c d : Bool}
     → eqb (get_or old.tasks i none).period (get_or new.tasks i none).period ≡ b
     → eqb (get_or old.tasks i none).budget (get_or new.tasks i none).budget ≡ c
     → eqb (get_or old.tasks i none).rank (get_or new.tasks i none).rank ≡ d
     → difference_at old new i ≡ cond b (cond c (cond d Clear (Blocked Rank)) (Blocked Budget)) (Blocked Period)
-difference_fields old {new} ok ok' i l m p q r = rw (
+difference_fields old new ok ok' i l m p q r = rw (
   lt-ltb i old.count l,
   lt-ltb i new.count m,
   period_at _ ok i l,
@@ -270,5 +270,5 @@ not_blocked Clear e = refl
 not_blocked (Blocked d) e = absurd (false≢true (sym e))
 
 -- No sheet has a task past the sixteen places.
-pub way_past : {old new : Sheet} → Sound old → Sound new → (i : ℕ) → 16 ≤ i → way_at old new i ≡ Clear
-way_past old {new} ok ok' i l = rw (past_counts old i (omega (arith, ok.count_most)), past_counts new i (omega (arith, ok'.count_most)))
+pub way_past : (old new : Sheet) → Sound old → Sound new → (i : ℕ) → 16 ≤ i → way_at old new i ≡ Clear
+way_past old new ok ok' i l = rw (past_counts old i (omega (arith, ok.count_most)), past_counts new i (omega (arith, ok'.count_most)))

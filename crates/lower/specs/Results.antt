@@ -117,7 +117,7 @@ module _ (old new : Sheet) where
     eq-eqb old.edition 2 c.old_edition,
     eq-eqb new.edition 2 c.new_edition,
     equal_same_entries (chain_of old 1) (chain_of new 1) c.differ_below.same_chain_lem,
-  ) (ap (λ i. standing i (way_at old new i)) none_blocked ∙ ap (standing 16) (way_past _ (accepted_sound old c.old_accepted) (accepted_sound new c.new_accepted) 16 (omega arith)))
+  ) (ap (λ i. standing i (way_at old new i)) none_blocked ∙ ap (standing 16) (way_past old new (accepted_sound old c.old_accepted) (accepted_sound new c.new_accepted) 16 (omega arith)))
     where
       clear : (i : ℕ) → way_at old new i ≡ Clear
       clear i = way_clear old new i
@@ -196,13 +196,13 @@ module _ {old new : Sheet} (below : DifferBelow old new) where
       let ok' = judged_sound new h.judged_fine in
       let apart = task_apart below ok ok' place on in
       let i = chain_task old place in
-      response_in ok room answer i (omega (arith, apart.known, tasks_length _ ok))
+      response_in old ok room answer i (omega (arith, apart.known, tasks_length _ ok))
       ∙ apart_response g.accepted h.accepted i apart
-      ∙ sym (response_in ok' room' answer' i (task_same below ok ok' place on).on_new)
+      ∙ sym (response_in new ok' room' answer' i (task_same below ok ok' place on).on_new)
     where
-      response_in : {s : Sheet} → Sound s → (room : ℕ) {t : Totals} → responses_of s room ≡ given t → (i : ℕ) → i < s.count
+      response_in : (s : Sheet) → Sound s → (room : ℕ) {t : Totals} → responses_of s room ≡ given t → (i : ℕ) → i < s.count
           → get_or (greatest_after (responses_of s room) s) i 0 ≡ task_response (tasks_of s) i
-      response_in {s} ok room e i l =
+      response_in s ok room e i l =
           ap (λ a. get_or (greatest_after a s) i 0) e ∙ places_taken 16 0 (task_response (tasks_of s)) s.count 0 i l (omega (arith, ok.count_most))
 
   -- The bounds of the call without a table are the same as well, whatever the hyperperiods.

@@ -1,6 +1,8 @@
 // Whether two timing sheets differ only below chain one, so that what was worked out for it on the one holds on the other (document 02, P10);
 // or what stands in the way. The condition is specs/Below.antt, what the call answers specs/Calls.antt, and what that says of the figures of
 // both sheets specs/Results.antt.
+#![tactic(auto)]
+
 mod answer;
 
 ghost use Rattle.std.specs.Prelude.{◌≡◌, ◌<◌, length};

@@ -1,9 +1,8 @@
 -- Chain one is the first of eight places.
-use mathlib.Core.Path.{◌≡◌, refl, sym, ◌∙◌}
+use mathlib.Core.Path.{◌≡◌, refl}
 use native.Mathlib.Omega.{arith}
-use lib.ListN.{length, length-map}
+use lib.ListN.{length}
 use Rattle.recurrence.proofs.Chains.{entries_whole}
-use borrow.Author.Rules.{rules}
 use Rattle.lower.proofs.chain_one.Goals as goal
 
 pub returns : goal.returns

@@ -1,13 +1,11 @@
 -- After i turns none of the first i indices stands in the way.
 use mathlib.Core.Path.{◌≡◌, sym, ap, ◌∙◌}
-use Prim.Native.Nat.{ℕ, ◌-◌, ◌≤◌, ◌<◌}
 use native.Mathlib.Numerals.{add-one}
 use native.Mathlib.Omega.{arith}
 use Rattle.arith.specs.RangeLaws.{below_suc}
 use Rattle.lower.specs.declared.answer.Way.TheVariants.{Clear}
 use Rattle.lower.specs.Calls.{way_at, blocked, standing}
 use Rattle.lower.specs.CallLaws.{least_is, least_none, way_past}
-use borrow.Author.Rules.{rules}
 use Rattle.lower.proofs.compare_tasks.Goals as goal
 
 pub loop-i-init : goal.loop-i-init
@@ -34,4 +32,4 @@ pub returns : goal.returns
 returns c =
     let l = c.loop-i in
     sym (ap (λ i. standing i (way_at c.args.old c.args.new i)) (least_none 16 (λ i. blocked (way_at c.args.old c.args.new i)) (λ j m. ap blocked (l.invariant.1 j (omega arith))))
-    ∙ ap (standing 16) (way_past _ c.requires.sound c.requires.sound_2 16 (omega arith)))
+    ∙ ap (standing 16) (way_past _ _ c.requires.sound c.requires.sound_2 16 (omega arith)))

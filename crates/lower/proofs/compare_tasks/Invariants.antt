@@ -1,12 +1,7 @@
-use mathlib.Core.Path.{◌≡◌, sym, ap, ◌∙◌}
+use mathlib.Core.Path.{◌≡◌}
 use Prim.Native.Nat.{ℕ, ◌-◌, ◌≤◌, ◌<◌}
-use native.Mathlib.Numerals.{add-one}
-use native.Mathlib.Omega.{arith}
-use Rattle.arith.specs.RangeLaws.{below_suc}
 use Rattle.lower.specs.declared.answer.Way.TheVariants.{Clear}
-use Rattle.lower.specs.Calls.{way_at, blocked, standing}
-use Rattle.lower.specs.CallLaws.{least_is, least_none, way_past}
-use borrow.Author.Rules.{rules}
+use Rattle.lower.specs.Calls.{way_at}
 use Rattle.lower.proofs.compare_tasks.Given as goal
 
 abbrev pub invariant-loop-i : goal.invariant-loop-i

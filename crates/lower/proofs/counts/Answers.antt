@@ -6,14 +6,12 @@ use Rattle.sheet.specs.Tasks.{tasks_of, chain_of}
 use Rattle.lower.specs.Calls.{below}
 use Rattle.lower.specs.Conditions.{ChainOn}
 use Rattle.lower.proofs.Lent.{lent, lent_length, lent_most, lent_chain}
-use borrow.Author.Rules.{rules}
 use Rattle.lower.proofs.counts.Goals.{After-below_chain}
 use Rattle.lower.proofs.counts.Goals as goal
 
 asked : (c : After-below_chain) → let a = c.args in c.below_chain.result ≡ below (tasks_of a.s) (chain_of a.s 1) a.i
 asked c =
-    let d = c in
-    c.below_chain.ensures ∙ ap (λ chain. below (tasks_of (start d).args.s) chain (start d).args.i) (lent _ (start d).requires d.chain_one-c.ensures)
+    c.below_chain.ensures ∙ ap (λ chain. below (tasks_of c.args.s) chain c.args.i) (lent _ c.requires c.chain_one-c.ensures)
 
 pub returns-then-s-i : goal.returns-then-s-i
 returns-then-s-i c = let a = c.args in rw (le-ltb a.i a.s.count (omega arith))

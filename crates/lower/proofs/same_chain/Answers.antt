@@ -3,7 +3,6 @@ use mathlib.Core.Path.{ap₂, ◌∙◌}
 use native.Mathlib.Omega.{arith}
 use Rattle.lower.specs.Calls.{same_entries}
 use Rattle.lower.proofs.Lent.{lent, lent_length, lent_most}
-use borrow.Author.Rules.{rules}
 use Rattle.lower.proofs.same_chain.Goals as goal
 
 pub slice_bounds-first-end : goal.slice_bounds-first-end

@@ -1,6 +1,5 @@
 -- After j turns the first j entries are the same.
 use mathlib.Core.Path.{◌≡◌, sym}
-use Prim.Native.Nat.{ℕ, ◌-◌, ◌≤◌, ◌<◌}
 use native.Mathlib.Numerals.{add-one}
 use native.Mathlib.Omega.{arith}
 use lib.Dec.{eqb}
@@ -8,7 +7,6 @@ use lib.ListN.{length, get_or}
 use borrow.Author.Tests.{eq-eqb, ne_eqb}
 use Rattle.arith.specs.RangeLaws.{below_suc}
 use Rattle.lower.specs.CallLaws.{each_every, every_fails}
-use borrow.Author.Rules.{rules}
 use Rattle.lower.proofs.same_entries.Goals as goal
 
 pub returns-then-a-b : goal.returns-then-a-b

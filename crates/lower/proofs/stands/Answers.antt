@@ -1,7 +1,6 @@
 -- Each case is the definition's.
 use mathlib.Core.Path.{sym, ap}
 use Rattle.lower.specs.Calls.{standing}
-use borrow.Author.Rules.{rules}
 use Rattle.lower.proofs.stands.Goals as goal
 
 pub returns-in-Blocked : goal.returns-in-Blocked

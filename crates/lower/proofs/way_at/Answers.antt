@@ -5,7 +5,6 @@ use Prim.Native.Nat.{ℕ}
 use Rattle.sheet.specs.declared.Sheet.{Sheet}
 use Rattle.lower.specs.declared.answer.Way.TheVariants.{Clear}
 use Rattle.lower.specs.Calls.{counts, difference_at, way_at}
-use borrow.Author.Rules.{rules}
 use Rattle.lower.proofs.way_at.Goals as goal
 
 way_by : (old new : Sheet) (i : ℕ) {b d : Bool} → counts old i ≡ b → counts new i ≡ d

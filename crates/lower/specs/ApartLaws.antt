@@ -45,7 +45,7 @@ module _ {old new : Sheet} (below : DifferBelow old new) (ok : Sound old) (ok' :
   first_chain = chain_known _ ok 1 (one_known _ ok)
 
   second_chain : Chain us (first_of one) (rest_of one)
-  second_chain = subst (λ c. Chain us (first_of c) (rest_of c)) (sym below.same_chain_lem) (chain_known _ ok' 1 (one_known _ ok'))
+  second_chain = subst (λ c. Chain us (first_of c) (rest_of c)) (sym below.same_chain) (chain_known _ ok' 1 (one_known _ ok'))
 
   same_there : (j : ℕ) → HoldsSame old new j → get_or ts j none ≡ get_or us j none
   same_there j h =
@@ -63,7 +63,7 @@ module _ {old new : Sheet} (below : DifferBelow old new) (ok : Sound old) (ok' :
     task_same = below.old_tasks i (omega (arith, listed, tasks_length _ ok)) (λ under. omega (arith, under place on))
 
     there : (place ≤ last_place new) × (chain_task new place ≡ i)
-    there = (subst (λ c. place ≤ length (rest_of c)) below.same_chain_lem on, ap (λ c. get_or c place 0) (sym below.same_chain_lem))
+    there = (subst (λ c. place ≤ length (rest_of c)) below.same_chain on, ap (λ c. get_or c place 0) (sym below.same_chain))
 
     pub task_apart : Apart ts us i
     task_apart = record {

@@ -26,6 +26,6 @@ pub record HoldsSame (old new : Sheet) (i : ℕ) : Type 0 where
 -- "the same chain one. Tasks ranked below the whole chain may differ at will, also in number; every index whose task on either sheet is not
 -- below it holds the same period, budget and rank on both." A chain is its length and its entries; its limit may differ.
 pub record DifferBelow (old new : Sheet) : Type 0 where
-  pub same_chain_lem : chain_of old 1 ≡ chain_of new 1
+  pub same_chain : chain_of old 1 ≡ chain_of new 1
   pub old_tasks : (i : ℕ) → i < old.count → ¬ (BelowChain old i) → HoldsSame old new i
   pub new_tasks : (i : ℕ) → i < new.count → ¬ (BelowChain new i) → HoldsSame old new i

@@ -101,7 +101,7 @@ module _ (old new : Sheet) where
         old_edition = eqb-true _ _ third.0;
         new_edition = eqb-true _ _ fourth.0;
         differ_below = record {
-          same_chain_lem = same_entries_equal (chain_of old 1) (chain_of new 1) fifth.0;
+          same_chain = same_entries_equal (chain_of old 1) (chain_of new 1) fifth.0;
           old_tasks = λ i l out.
               (clear_way old new i (all_clear fifth.1 i (omega (arith, (accepted_sound old first.0).count_most)))).0 (not_below_counts old i l out);
           new_tasks = λ i l out.
@@ -116,7 +116,7 @@ module _ (old new : Sheet) where
     c.new_accepted,
     eq-eqb old.edition 2 c.old_edition,
     eq-eqb new.edition 2 c.new_edition,
-    equal_same_entries (chain_of old 1) (chain_of new 1) c.differ_below.same_chain_lem,
+    equal_same_entries (chain_of old 1) (chain_of new 1) c.differ_below.same_chain,
   ) (ap (λ i. standing i (way_at old new i)) none_blocked ∙ ap (standing 16) (way_past old new (accepted_sound old c.old_accepted) (accepted_sound new c.new_accepted) 16 (omega arith)))
     where
       clear : (i : ℕ) → way_at old new i ≡ Clear
@@ -166,16 +166,16 @@ module _ {old new : Sheet} (below : DifferBelow old new) where
       same = figures_same below ok ok' g.taken.tasks.accepted h.taken.tasks.accepted
 
       there : y.sampling ≡ figure_of (tasks_of new) (chain_of old 1)
-      there = h.sampling_is ∙ ap (figure_of (tasks_of new)) (sym below.same_chain_lem)
+      there = h.sampling_is ∙ ap (figure_of (tasks_of new)) (sym below.same_chain)
 
       ticks : x.sampling.ticks ≡ y.sampling.ticks
       ticks = ap (λ (f : Figure). f.ticks) g.sampling_is ∙ same.same_sampling ∙ sym (ap (λ (f : Figure). f.ticks) there)
 
       bounds : x.sampling_bound ≡ y.sampling_bound
-      bounds = g.quick_is ∙ same.same_bound ∙ sym (h.quick_is ∙ ap (quick_bound (tasks_of new)) (sym below.same_chain_lem))
+      bounds = g.quick_is ∙ same.same_bound ∙ sym (h.quick_is ∙ ap (quick_bound (tasks_of new)) (sym below.same_chain))
 
       wait : flag_wait (tasks_of old) (first_of (chain_of old 1)) ≡ flag_wait (tasks_of new) (first_of (chain_of new 1))
-      wait = ap (λ T. T - 1) (first_period_same below ok ok') ∙ ap (λ c. flag_wait (tasks_of new) (first_of c)) below.same_chain_lem
+      wait = ap (λ T. T - 1) (first_period_same below ok ok') ∙ ap (λ c. flag_wait (tasks_of new) (first_of c)) below.same_chain
 
   -- Under the same limit the margins are the same too, so the report's lines of chain one are.
   pub same_margin : (room room' : ℕ) (x y : Summary) (answer : FiguresAnswers old 1 room x) (answer' : FiguresAnswers new 1 room' y)
@@ -226,11 +226,11 @@ module _ {old new : Sheet} (below : DifferBelow old new) where
       bounds =
           quick_bound_same (given_accepted old 1 answer).proper (first_of (chain_of old 1)) (rest_of (chain_of old 1)) (chain_known _ ok 1 (one_known _ ok))
           ∙ (figures_same below ok ok' (given_accepted old 1 answer) (given_accepted new 1 answer')).same_bound
-          ∙ ap (λ c. bound (tasks_of new) (task_response (tasks_of new)) (first_of c) (rest_of c)) below.same_chain_lem
+          ∙ ap (λ c. bound (tasks_of new) (task_response (tasks_of new)) (first_of c) (rest_of c)) below.same_chain
           ∙ sym (quick_bound_same (given_accepted new 1 answer').proper (first_of (chain_of new 1)) (rest_of (chain_of new 1)) (chain_known _ ok' 1 (one_known _ ok')))
 
       wait : flag_wait (tasks_of old) (first_of (chain_of old 1)) ≡ flag_wait (tasks_of new) (first_of (chain_of new 1))
-      wait = ap (λ T. T - 1) (first_period_same below ok ok') ∙ ap (λ c. flag_wait (tasks_of new) (first_of c)) below.same_chain_lem
+      wait = ap (λ T. T - 1) (first_period_same below ok ok') ∙ ap (λ c. flag_wait (tasks_of new) (first_of c)) below.same_chain
 
 -- ---- what the answer is worth
 

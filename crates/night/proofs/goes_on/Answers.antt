@@ -1,7 +1,6 @@
 -- A task that ran last is told by its number, and none by 16.
 use Rattle.night.specs.Conditions.{tasks_in}
 use Rattle.night.proofs.Laws.{goes_task, goes_none}
-use borrow.Author.Rules.{rules}
 use Rattle.night.proofs.goes_on.Goals as goal
 
 pub returns-then-last-lt16 : goal.returns-then-last-lt16

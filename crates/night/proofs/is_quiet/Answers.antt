@@ -2,7 +2,6 @@
 use mathlib.Core.Path.{◌∙◌}
 use Rattle.night.specs.Conditions.{tasks_in}
 use Rattle.night.proofs.Laws.{quiet_fresh, quiet_over, quiet_left, quiet_task, quiet_none}
-use borrow.Author.Rules.{rules}
 use Rattle.night.proofs.is_quiet.Goals as goal
 
 pub returns-then-had-eq0 : goal.returns-then-had-eq0

@@ -1,6 +1,5 @@
 -- Only the task that ran has run longer.
 use Rattle.night.proofs.Laws.{ran_on, ran_not}
-use borrow.Author.Rules.{rules}
 use Rattle.night.proofs.run_on.Goals as goal
 
 pub overflow_add-ran : goal.overflow_add-ran

@@ -1,14 +1,9 @@
 -- Each turn takes one task more into account, where its next job is released.
-use mathlib.Core.Path.{refl, sym, ◌∙◌, ◌≡◌}
+use mathlib.Core.Path.{refl, sym, ◌∙◌}
 use native.Mathlib.Omega.{arith}
 use Rattle.night.proofs.Laws.{best_taken, best_passed, best_turn}
-use mathlib.Core.Logic.{⊎_elim}
-use Prim.Native.Nat.{◌-◌, ◌≤◌}
-use lib.Dec.{leb}
-use Rattle.theory.specs.Model.Schedule.{rank, release}
 use Rattle.theory.specs.Model.Greatest.{greatest}
-use Rattle.night.specs.Conditions.{held, slot, known, tasks_in}
-use borrow.Author.Rules.{rules}
+use Rattle.night.proofs.turn_of.Goals.{then-released, else-released}
 use Rattle.night.proofs.turn_of.Goals as goal
 
 pub loop-i-init : goal.loop-i-init
@@ -20,10 +15,10 @@ loop-i-preserved c =
     let l = c.loop-i in
     let at = c.args.at in
     let ended = c.args.ended.now in
-    ⊎_elim
-    (λ w. best_taken c.requires.plan_fits ended at l.i l.best w.1.result c.if-released.best (omega arith) l.invariant (sym c.released.ensures ∙ w.0.taken) w.1.ensures w.2)
-    (λ w. best_passed c.requires.plan_fits ended at l.i l.best c.if-released.best (omega arith) l.invariant (sym c.released.ensures ∙ w.0.left) w.1)
-    c.if-released.branch
+    elim c.if-released.branch [
+      | then-released w ↦ best_taken c.requires.plan_fits ended at l.i l.best w.greater-best.result c.if-released.best (omega arith) l.invariant (sym c.released.ensures ∙ w.if-released.true) w.greater-best.ensures w.best-is
+      | else-released w ↦ best_passed c.requires.plan_fits ended at l.i l.best c.if-released.best (omega arith) l.invariant (sym c.released.ensures ∙ w.if-released.false) w.best-is
+    ]
 
 pub returns : goal.returns
 returns c =

@@ -1,13 +1,9 @@
-use mathlib.Core.Path.{refl, sym, ◌∙◌, ◌≡◌}
-use native.Mathlib.Omega.{arith}
-use Rattle.night.proofs.Laws.{best_taken, best_passed, best_turn}
-use mathlib.Core.Logic.{⊎_elim}
+use mathlib.Core.Path.{◌≡◌}
 use Prim.Native.Nat.{◌-◌, ◌≤◌}
 use lib.Dec.{leb}
 use Rattle.theory.specs.Model.Schedule.{rank, release}
 use Rattle.theory.specs.Model.Greatest.{greatest}
 use Rattle.night.specs.Conditions.{held, slot, known, tasks_in}
-use borrow.Author.Rules.{rules}
 use Rattle.night.proofs.turn_of.Given as goal
 
 abbrev pub invariant-loop-i : goal.invariant-loop-i

@@ -15,7 +15,7 @@ use Rattle.answers.specs.Answers.{fine}
 use Rattle.sheet.specs.declared.Sheet.{Sheet}
 use Rattle.sheet.specs.Sound.{Sound}
 use Rattle.sheet.specs.Tasks.{tasks_of, chain_count, lacks, chain_of, first_of, rest_of}
-use Rattle.sheet.specs.TaskLaws.{tasks_length, chain_count_lem, chain_most, chain_known}
+use Rattle.sheet.specs.TaskLaws.{tasks_length, chain_count_lem, chain_known}
 use Rattle.clocklog.specs.FormatLaws.{judged_recorded}
 use Rattle.night.specs.Calls.{chain_one}
 use Rattle.theory.specs.Model.Schedule.{period}
@@ -31,7 +31,7 @@ use Rattle.night.specs.Pass.{fresh}
 use Rattle.night.specs.Exact.{taken_most}
 use Rattle.night.specs.Follow.{unread, followed, paths}
 use Rattle.night.specs.Results.{nowhere_breaks, record_breaks, pass_replays}
-use Rattle.night.specs.Conditions.{tasks_in, Sane, Chained, FoundIn, break_in}
+use Rattle.night.specs.Conditions.{tasks_in, Sane, FoundIn, break_in}
 
 records_length : (bytes : List ℕ) (r n : ℕ) → length (records_from bytes r n) ≡ n
 unfolding records_from
@@ -77,9 +77,6 @@ module _ (s : Sheet) (sound : Sound s) where
 
   pub has_one : lacks s chain_one ≡ fine
   has_one = rw (le-ltb (chain_count s) 1 (omega (arith, chain_count_lem _ sound, sound.chains_least))) refl
-
-  pub chained : 0 < length one → Chained one
-  chained some = record { some = some; most = chain_most _ sound chain_one has_one }
 
   pub first_known : first_of one < s.count
   first_known = omega (arith, chain_head (tasks_of s) (first_of one) (rest_of one) (chain_known _ sound chain_one has_one), tasks_length _ sound)

@@ -64,9 +64,6 @@ module _ {plan : List ℕ} {count : ℕ} (ok : Plan plan count) where
       λ _. l,
     )
 
-    pub greater_first : 16 ≤ best → (slot i ≡ outranking (rank (tasks_in plan count)) i (slot best)) × known count i
-    greater_first h = (slot_task (omega (arith, ok.few)) ∙ sym (ap (outranking (rank (tasks_in plan count)) i) (slot_none h)), λ _. l)
-
   -- The best of the first i
   abbrev pub best_of : List ℕ → ℕ → ℕ → Slot
   best_of ended at i = greatest (rank (tasks_in plan count)) (λ j. leb (release (tasks_in plan count) j (held ended j)) at) i

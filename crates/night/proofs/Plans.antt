@@ -20,9 +20,6 @@ pub record PlanTo (s : Sheet) (n : ℕ) (plan : List ℕ) : Type 0 where
   pub whole : length plan ≡ 48
   pub tasks_are : (i : ℕ) → i < n → task_in plan i ≡ get_or s.tasks i none
 
-pub plan_none : (s : Sheet) {plan : List ℕ} → length plan ≡ 48 → PlanTo s 0 plan
-plan_none s e = record { whole = e; tasks_are = λ i l. absurd (omega arith) }
-
 -- Three numbers more.
 module _ (plan : List ℕ) (n a b c : ℕ) where
   abbrev one : List ℕ

@@ -1,11 +1,11 @@
 -- The readings after the records so far.
 use mathlib.Core.Path.{◌≡◌, sym, ap, ap₂, ◌∙◌, subst}
-use mathlib.Core.List.{List, [], ◌∷◌}
+use mathlib.Core.List.{List}
 use mathlib.Core.Bool.{Bool, true, false, cond}
-use Prim.Native.Nat.{ℕ, zero, suc, ◌+◌, ◌-◌, ◌≤◌, ◌<◌}
+use Prim.Native.Nat.{ℕ, zero, suc, ◌+◌, ◌≤◌}
 use native.Mathlib.Nat.{add-zero, zero-add}
 use native.Mathlib.Omega.{arith}
-use lib.ListN.{length, get_or, replicate, length-replicate}
+use lib.ListN.{length, replicate, length-replicate}
 use Rattle.theory.specs.declared.Task.{Task}
 use Rattle.theory.specs.Model.Schedule.{period}
 use Rattle.night.specs.declared.Found.{Found}
@@ -13,8 +13,8 @@ use Rattle.night.specs.declared.answer.Longest.{Longest}
 use Rattle.night.specs.declared.answer.Longest.TheVariants.{Nothing}
 use Rattle.clocklog.specs.Events.{Event, start, finish}
 use Rattle.clocklog.specs.Format.{task, kind, time_at, event, record_at, records_from}
-use Rattle.night.specs.Follow.{stands, Readings as ReadingsAt, unread, ready, follow, followed, paths}
-use Rattle.night.specs.Conditions.{held, readings_of, Chained, FoundIn}
+use Rattle.night.specs.Follow.{stands, Readings as ReadingsAt, unread, ready, follow, followed}
+use Rattle.night.specs.Conditions.{held, readings_of, FoundIn}
 use Rattle.sheet.specs.Tasks.{first_of, rest_of}
 use Rattle.night.specs.Pass.{fresh, taken}
 use Rattle.night.proofs.Records.{zeros}
@@ -90,14 +90,6 @@ module _ (T : ℕ) (chain : List ℕ) (bytes : List ℕ) where
       spoken : readings_of reads' writes' y ≡ follow T p rest (readings_of reads writes x) (record_at bytes r)
       spoken = h ∙ ap (λ n. follow T p rest (readings_of reads writes x) (event t k n)) de
           ∙ ap₂ (λ t k. follow T p rest (readings_of reads writes x) (event t k (time_at bytes r))) te ke
-
--- The last place.
-pub last_place_lem : (chain : List ℕ) → Chained chain → (writes : List ℕ) → get_or writes (length chain - 1) 0 ≡ held writes (length (rest_of chain))
-last_place_lem chain ok writes = ap (held writes) (go chain ok.some)
-  where
-    go : (chain : List ℕ) → 0 < length chain → length chain - 1 ≡ length (rest_of chain)
-    go [] h = absurd (omega arith)
-    go (x ∷ xs) h = omega arith
 
 -- What is found after r records.
 pub found_in : (ts : List Task) (chain bytes : List ℕ) (n m r T : ℕ) (reads writes : List ℕ) (x : Longest) (y : Found)

@@ -1,13 +1,8 @@
 -- Place by place the plan holds one task more.
-use mathlib.Core.Path.{refl, subst}
-use Prim.Native.Nat.{◌-◌, ◌≤◌}
+use mathlib.Core.Path.{subst}
 use native.Mathlib.Omega.{arith}
-use Rattle.night.proofs.Plans.{PlanTo, plan_none, plan_more, plan_tasks}
-use borrow.Author.Rules.{rules}
+use Rattle.night.proofs.Plans.{PlanTo, plan_more, plan_tasks}
 use Rattle.night.proofs.plan_of.Goals as goal
-
-pub loop-i-init : goal.loop-i-init
-loop-i-init c = (omega arith, plan_none c.args.s refl)
 
 pub loop-i-preserved : goal.loop-i-preserved
 loop-i-preserved c =

@@ -1,8 +1,5 @@
-use mathlib.Core.Path.{refl, subst}
 use Prim.Native.Nat.{◌-◌, ◌≤◌}
-use native.Mathlib.Omega.{arith}
-use Rattle.night.proofs.Plans.{PlanTo, plan_none, plan_more, plan_tasks}
-use borrow.Author.Rules.{rules}
+use Rattle.night.proofs.Plans.{PlanTo}
 use Rattle.night.proofs.plan_of.Given as goal
 
 abbrev pub invariant-loop-i : goal.invariant-loop-i

@@ -1,15 +1,9 @@
-use mathlib.Core.Path.{◌≡◌, refl, sym, ap, ◌∙◌}
-use Prim.Native.Nat.{◌+◌, ◌-◌, ◌<◌}
-use native.Mathlib.Omega.{arith}
-use Rattle.theory.specs.declared.Task.{Task}
+use Rattle.std.proofs.Common.{◌≡◌, ◌-◌}
 use Rattle.theory.specs.Model.Schedule.{period}
-use mathlib.Core.List.{List}
 use Rattle.sheet.specs.Tasks.{first_of}
 use Rattle.night.specs.Conditions.{tasks_in}
-use Rattle.night.proofs.Laws.{period_at}
-use Rattle.night.proofs.Records.{Going, going_start, going_time, going_ends, read_breaks, read_next}
-use Rattle.night.proofs.Readings.{Tracked, tracked_start, tracked_next, found_in}
-use borrow.Author.Rules.{rules}
+use Rattle.night.proofs.Records.{Going}
+use Rattle.night.proofs.Readings.{Tracked}
 use Rattle.night.proofs.run_log.Given as goal
 
 abbrev pub invariant-loop-r : goal.invariant-loop-r

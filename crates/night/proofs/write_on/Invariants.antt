@@ -1,11 +1,8 @@
-use mathlib.Core.Path.{refl, sym, subst}
-use Prim.Native.Nat.{◌+◌, ◌-◌}
-use mathlib.Core.Logic.{⊎_elim}
-use native.Mathlib.Omega.{arith}
+-- Each turn settles one place: where the task stands it writes what it has read, elsewhere nothing changes.
+use Prim.Native.Nat.{◌-◌}
 use lib.ListN.{length}
 use Rattle.night.specs.Conditions.{held}
-use Rattle.night.proofs.Places.{Swept, swept_start, swept_hit, swept_miss, swept_whole}
-use borrow.Author.Rules.{rules}
+use Rattle.night.proofs.Places.{Swept}
 use Rattle.night.proofs.write_on.Given as goal
 
 abbrev pub invariant-loop-q : goal.invariant-loop-q

@@ -19,11 +19,11 @@ use Rattle.theory.proofs.Analysis.Finish.{finish_least, finish_released}
 use Rattle.theory.proofs.Analysis.NeverLater.{job_finishes}
 use Rattle.theory.specs.Model.Chain.{Chain, HandOver, PathEnds}
 use Rattle.theory.proofs.Analysis.Paths.{path_unique, path_exists}
-use Rattle.clocklog.specs.Events.{Event, start, finish, time}
+use Rattle.clocklog.specs.Events.{Event, start, finish}
 use Rattle.night.specs.declared.answer.Longest.{Longest}
 use Rattle.night.specs.declared.answer.Longest.TheVariants.{Nothing, Delay}
 use Rattle.night.specs.Agreement.{Begins, Logged, place}
-use Rattle.night.specs.Pass.{State, fresh, from, on}
+use Rattle.night.specs.Pass.{State, fresh, from}
 use Rattle.night.specs.PassLaws.{busy_task, Fits, opening_least, opening_most}
 use Rattle.night.specs.Exact.{fits_fresh}
 use Rattle.night.specs.StepLaws.{next_taken, begun, Starting, Finishing, step_starting, step_finishing, next_turn}

@@ -14,7 +14,7 @@ use Rattle.theory.proofs.Analysis.Work.{done_grows, runs_other, done_step, done_
 use Rattle.theory.proofs.Analysis.Backlog.{done_most}
 use Rattle.clocklog.specs.Events.{Event, start, finish}
 use Rattle.night.specs.Agreement.{instant, Happens}
-use Rattle.night.specs.Pass.{State, opening, from, put, is, turn, share, goes_on, quiet, on, stretched, stretch, wait}
+use Rattle.night.specs.Pass.{State, opening, from, put, is, turn, share, goes_on, quiet, on, stretched, wait}
 
 -- Slots and updates
 

@@ -1,6 +1,8 @@
 // Does last night's log agree with the sheet, and which paths does it hold? What agrees and what is followed is said in
 // specs/Agreement.antt, what the call answers in specs/Calls.antt; the pass over the records, with state per task and per place of the
 // chain, is defined in specs/Pass.antt and specs/Follow.antt and proved right in specs/Results.antt.
+#![tactic(auto)]
+
 mod answer;
 
 ghost use Rattle.std.specs.Prelude.{◌≡◌, [], cond, ◌+◌, ◌-◌, ◌*◌, ◌≤◌, ◌<◌, leb, length};

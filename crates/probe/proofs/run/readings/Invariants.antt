@@ -1,0 +1,10 @@
+-- It goes so many times.
+use Prim.Native.Nat.{◌-◌, ◌≤◌}
+use borrow.Author.Rules.{rules}
+use Rattle.probe.proofs.run.readings.Given as goal
+
+abbrev pub invariant-loop-i : goal.invariant-loop-i
+invariant-loop-i l = l.i ≤ l.times
+
+abbrev pub decreases-loop-i : goal.decreases-loop-i
+decreases-loop-i l = l.times - l.i

@@ -1,5 +1,7 @@
 // A timing sheet in another edition. Standard input has the edition that is wanted, as the character 1 or 2, and then the sheet; its bytes
 // in that edition go to standard output, or the refusal to standard error.
+#![tactic(auto)]
+
 use answers::Verdict;
 use sheet::{Reading, Sheet, Written};
 

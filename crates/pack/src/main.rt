@@ -1,5 +1,7 @@
 // A text on standard input as the bytes of its sheet on standard output. What is wrong with it, and at which line and column, goes to standard
 // error: `refused` and the number of the refusal, or `mistake` and the number of the mistake.
+#![tactic(auto)]
+
 use sheet::{Sheet, Written};
 use text::Parsed;
 

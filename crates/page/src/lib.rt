@@ -1,5 +1,7 @@
 // The lines that several programs print alike, on standard output where nothing else is said. Every function here prints and does nothing
 // else: it answers nothing, and nothing that it is lent is changed.
+#![tactic(auto)]
+
 use answers::Refusal;
 use sheet::{Chain, Sheet};
 

@@ -1,6 +1,8 @@
 // Makes any call of the library on request: one request after the other on standard input (src/request.rt), each answered on
 // standard output with what the call answers and the whole of the memory that it was lent (src/answer.rt). What it answers is
 // held to the model; it is proved to be safe and to end.
+#![tactic(auto)]
+
 mod answer;
 mod request;
 mod run;

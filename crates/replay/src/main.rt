@@ -1,6 +1,8 @@
 // Last night's log held to its sheet. The sheet comes on standard input and the log on file descriptor 3. Prints how many records the log has,
 // how many paths were followed and the longest of them, the sampling figure of the chain, and whether the log agrees; or the refusal, behind
 // the file that it is about.
+#![tactic(auto)]
+
 use answers::{Refusal, Verdict};
 use night::{Break, Longest, Replay, Replayed};
 

@@ -1,4 +1,6 @@
 // A timing sheet on standard input as text on standard output, or the refusal on standard error.
+#![tactic(auto)]
+
 use answers::Verdict;
 use sheet::{Sheet, Written};
 

@@ -2,7 +2,6 @@
 use mathlib.Core.Path.{sym}
 use native.Mathlib.Omega.{arith}
 use lib.Seq.{length-take-le}
-use borrow.Author.Rules.{rules}
 use Rattle.probe.proofs.of_log.Goals as goal
 
 pub slice_bounds-of_sheet_and_log-end : goal.slice_bounds-of_sheet_and_log-end

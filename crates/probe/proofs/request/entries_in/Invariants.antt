@@ -1,6 +1,5 @@
 -- It goes once over the places.
 use Prim.Native.Nat.{◌-◌, ◌≤◌}
-use borrow.Author.Rules.{rules}
 use Rattle.probe.proofs.request.entries_in.Given as goal
 
 abbrev pub invariant-loop-i : goal.invariant-loop-i

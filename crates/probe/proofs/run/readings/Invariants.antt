@@ -1,6 +1,5 @@
 -- It goes so many times.
 use Prim.Native.Nat.{◌-◌, ◌≤◌}
-use borrow.Author.Rules.{rules}
 use Rattle.probe.proofs.run.readings.Given as goal
 
 abbrev pub invariant-loop-i : goal.invariant-loop-i

@@ -1,3 +1,1 @@
--- Laws that several proofs cite.
-pub mod Signs
 pub mod Promised

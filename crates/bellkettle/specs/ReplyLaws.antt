@@ -4,7 +4,7 @@ use Rattle.std.proofs.Common.{sym, ap, ap₂, ◌∙◌, subst, arith}
 use Rattle.std.proofs.lemmas.List.Edits.{sets}
 use Rattle.answers.specs.declared.Refusal.{Refusal}
 use Rattle.answers.specs.declared.Verdict.TheVariants.{Fine, No}
-use Rattle.answers.specs.Answers.{Answer, given, refused, after, refusal}
+use Rattle.answers.specs.Answers.{Answer, given, refused, refusal}
 use Rattle.answers.specs.AnswerLaws.{also_fine, also_no}
 use Rattle.sheet.specs.declared.Sheet.{Sheet}
 use Rattle.sheet.specs.declared.Reading.{Reading}

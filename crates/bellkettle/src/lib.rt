@@ -1,6 +1,8 @@
 // The library for programs in C: document 01's calls over the bytes of a sheet. Each returns the number of the refusal, or 0; what
 // else it answers goes to lent slices. No sheet and no answer crosses over, and of structs the tell-tale's record alone, so nothing has to be
 // trusted but pointers, lengths and that layout. What is returned and left is defined in specs/Promises.antt; include/bellkettle.h says it to those who call.
+#![tactic(auto)]
+
 ghost use Rattle.std.specs.Prelude.{◌≡◌, ◌+◌, ◌≤◌, ◌<◌, pos, length, get_or, set};
 ghost use Rattle.std.proofs.lemmas.List.Edits.{sets};
 ghost use Rattle.bits.specs.Bits.{list_of};

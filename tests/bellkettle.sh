@@ -491,7 +491,7 @@ fails "$tree/target/bin/report: this program did not answer ("
 leaves_nothing
 
 # Packages are installed for the gate and the tests, by nothing else.
-for script in bellkettle tools/*.sh tools/run tools/commands/* bench/run; do
+for script in bellkettle tools/*.sh tools/run tools/prove tools/keep tools/commands/* bench/run; do
     [ "$script" != tools/packages.sh ] || continue
     ! grep 'apt-get\|packages\.sh' "$script" || { echo "tests/bellkettle.sh: $script installs packages" && exit 1; }
 done

@@ -131,7 +131,7 @@ not_built() { # NAME STATUS: says which crate failed, and where to read on
     case $what in
     refused)
         say "crate $crate is not proved, so $1 is not built; $log says why:"
-        grep -E ': error: |^fn [^ ]*: (not proved|no proof: expected)' "$log" | head -n 8
+        { grep -E ': error: |^error|^fn [^ ]*: (not proved|no proof: expected)' "$log" || tail -n 8 "$log"; } | head -n 8
         ;;
     differs)
         say "crate $crate is proved, and its program did not print what it must, crates/$crate/stdout; it said at last"
@@ -145,7 +145,7 @@ not_built() { # NAME STATUS: says which crate failed, and where to read on
         say "'tools/prove' in $root ended with status $2, and said at last"
         tail -n 8 "$yard/said"
         ;;
-    esac 2>&1 | cut -c 1-200 >&2
+    esac 2>&1 | cut -c 1-200 >&2 || true
     [ "$what" != refused ] || failed=$crate
     exit 3
 }

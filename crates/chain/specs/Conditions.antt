@@ -5,7 +5,7 @@ use Rattle.arith.specs.Ranges.{sum, maximum, least}
 use Rattle.theory.specs.Model.Schedule.{period, rank}
 use Rattle.theory.specs.Model.Responses.{jobs}
 use Rattle.theory.specs.Model.Chain.{Chain, Waits, Table, walk_next, walk_delay, walk_bound}
-use Rattle.theory.proofs.Analysis.Largest.{pair_bound}
+use Rattle.theory.specs.Analysis.Largest.{pair_bound}
 use Rattle.answers.specs.declared.Verdict.{Verdict}
 use Rattle.answers.specs.declared.Verdict.TheVariants.{Fine, No}
 use Rattle.answers.specs.Answers.{Answer, refused, fine, after, also, refusal}

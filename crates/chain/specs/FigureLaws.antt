@@ -11,7 +11,8 @@ use Rattle.theory.proofs.Analysis.Hyperperiod.{jobs_whole, jobs_positive, jobs_r
 use Rattle.theory.proofs.Analysis.Repetition.{response_jobs, response_period}
 use Rattle.theory.specs.Model.Chain.{Chain, walk_delay, outranked, delay, sampling, sampling_release, bound}
 use Rattle.theory.proofs.Analysis.ChainLaws.{chain_head}
-use Rattle.theory.proofs.Analysis.WalkLaws.{Along, chain_along, Alike, walk_delay_same, walk_bound_same}
+use Rattle.theory.specs.Analysis.WalkLaws.{Along, Alike}
+use Rattle.theory.proofs.Analysis.WalkLaws.{chain_along, walk_delay_same, walk_bound_same}
 use Rattle.sheet.specs.Tasks.{first_of, rest_of}
 use Rattle.schedule.specs.Calls.{most_ticks}
 use Rattle.chain.specs.declared.answer.Figure.{Figure}

@@ -14,7 +14,8 @@ use Rattle.theory.specs.Model.Schedule.{period, release}
 use Rattle.theory.specs.Model.Chain.{Waits, Table, walk_next, walk_delay, outranked, delay, sampling, bound}
 use Rattle.theory.specs.Model.Responses.{response, jobs, task_response}
 use Rattle.theory.proofs.Analysis.Repetition.{response_period}
-use Rattle.theory.proofs.Analysis.Largest.{Along, along_first, along_chain, SmallTask, bound_most}
+use Rattle.theory.specs.Analysis.Largest.{Along, SmallTask}
+use Rattle.theory.proofs.Analysis.Largest.{along_first, along_chain, bound_most}
 use Rattle.theory.proofs.Analysis.ChainLaws.{chain_head}
 use Rattle.sheet.specs.Tasks.{first_of, rest_of}
 use Rattle.chain.specs.Conditions.{most_period, most_wait, most_figure, most_worst, TakenChain}

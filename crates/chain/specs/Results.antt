@@ -14,7 +14,7 @@ use Rattle.theory.specs.Model.Flag.{FlagWithin}
 use Rattle.theory.proofs.Analysis.FlagLaws.{flag_later}
 use Rattle.theory.proofs.Results.Flags.{no_flag_exceeds}
 use Rattle.theory.proofs.Results.Demand3 as demand
-use Rattle.theory.proofs.Results.Demand3.{GreatestDelay}
+use Rattle.theory.specs.Results.Demand3.{GreatestDelay}
 use Rattle.sheet.specs.declared.Sheet.{Sheet}
 use Rattle.answers.specs.Answers.{given, fine, after}
 use Rattle.answers.specs.AnswerLaws.{when_fine}

@@ -6,7 +6,8 @@ use Rattle.std.proofs.Common.{mul-div_cancel, mul-le-mul_right, arith, length-dr
 use Rattle.std.proofs.Math.Decide.{ℕ_discrete}
 use Rattle.theory.specs.Model.Chain.{walk_delay, walk_bound}
 use Rattle.theory.proofs.Analysis.WalkLaws.{walk_next_later}
-use Rattle.theory.proofs.Analysis.Largest.{SmallTask, pair_most, bound_most}
+use Rattle.theory.specs.Analysis.Largest.{SmallTask}
+use Rattle.theory.proofs.Analysis.Largest.{pair_most, bound_most}
 use Rattle.sheet.specs.Tasks.{first_of, rest_of}
 use Rattle.chain.specs.declared.answer.HandOver.{HandOver}
 use Rattle.chain.specs.Conditions.{most_period, most_wait, period_in, waits_in, rows_in, greatest_in, next_in, delay_in, pair_in, bound_in, onward, ahead, HandedOver, FirstHandedOver, TaskIn, ChainIn}

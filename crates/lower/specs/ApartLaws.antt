@@ -5,8 +5,10 @@ use Rattle.theory.specs.declared.Task.{Task}
 use Rattle.theory.specs.Model.Schedule.{none, period, budget, rank}
 use Rattle.theory.specs.Model.Responses.{Accepted}
 use Rattle.theory.specs.Model.Chain.{Chain}
-use Rattle.theory.proofs.Analysis.WalkLaws.{Along, chain_along}
-use Rattle.theory.proofs.Results.LowerRanks.{SameFigures, Apart, apart_figures}
+use Rattle.theory.specs.Analysis.WalkLaws.{Along}
+use Rattle.theory.proofs.Analysis.WalkLaws.{chain_along}
+use Rattle.theory.specs.Results.LowerRanks.{SameFigures, Apart}
+use Rattle.theory.proofs.Results.LowerRanks.{apart_figures}
 use Rattle.sheet.specs.declared.Sheet.{Sheet}
 use Rattle.sheet.specs.Sound.{Sound}
 use Rattle.sheet.specs.Tasks.{tasks_of, chain_of, first_of, rest_of}

@@ -9,7 +9,8 @@ use Rattle.arith.specs.RangeLaws.{least_passes}
 use Rattle.theory.specs.Model.Responses.{all_jobs, task_response}
 use Rattle.theory.specs.Model.Chain.{bound}
 use Rattle.theory.specs.Model.Flag.{flag_wait}
-use Rattle.theory.proofs.Results.LowerRanks.{SameFigures, apart_response}
+use Rattle.theory.specs.Results.LowerRanks.{SameFigures}
+use Rattle.theory.proofs.Results.LowerRanks.{apart_response}
 use Rattle.theory.proofs.Results.QuickBound.{quick_bound_same}
 use Rattle.answers.specs.Answers.{given, refused, Judgement, fine, after}
 use Rattle.answers.specs.AnswerLaws.{after_given}

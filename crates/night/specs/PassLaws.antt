@@ -9,7 +9,8 @@ use native.Mathlib.Omega.{arith}
 use Rattle.std.proofs.Math.Decide.{ℕ_discrete, dec_le, dec_lt}
 use Rattle.theory.specs.declared.Task.{Task}
 use Rattle.theory.specs.Model.Schedule.{release, budget, rank, Proper, Demands, Within, need, Slot, idle, busy, Run, runs, done, Pending, Schedule, Starts, Finishes}
-use Rattle.theory.proofs.Analysis.GreatestLaws.{IsGreatest, greatest_is}
+use Rattle.theory.specs.Analysis.GreatestLaws.{IsGreatest}
+use Rattle.theory.proofs.Analysis.GreatestLaws.{greatest_is}
 use Rattle.theory.proofs.Analysis.Work.{done_grows, runs_other, done_step, done_busy, need_step, need_grows, due_covers, due_most}
 use Rattle.theory.proofs.Analysis.Backlog.{done_most}
 use Rattle.clocklog.specs.Events.{Event, start, finish}

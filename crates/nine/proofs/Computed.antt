@@ -15,7 +15,8 @@ use Rattle.arith.specs.RangeLaws.{maximum_above, maximum_least}
 use Rattle.theory.specs.Model.Schedule.{period, rank, Proper}
 use Rattle.theory.specs.Model.Responses.{response, hyperperiod, jobs, all_jobs, task_response}
 use Rattle.theory.specs.Model.Greatest.{outranking, greatest}
-use Rattle.theory.proofs.Analysis.Clearing.{clearing, response_clearing, clearing_late, late_clearing}
+use Rattle.theory.specs.Analysis.Clearing.{clearing}
+use Rattle.theory.proofs.Analysis.Clearing.{response_clearing, clearing_late, late_clearing}
 use Rattle.theory.proofs.Analysis.Evaluation.{sampling_clearing, sampling_release_clearing, bound_clearing}
 use Rattle.theory.specs.Model.Chain.{Chain, sampling, sampling_release, bound}
 use Rattle.sheet.specs.declared.Sheet.{Sheet}

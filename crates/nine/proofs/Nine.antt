@@ -6,7 +6,7 @@ use Rattle.bits.specs.Bits.{list_of}
 use Rattle.arith.specs.Ranges.{sum, maximum, least}
 use Rattle.theory.specs.Model.Responses.{hyperperiod, all_jobs}
 use Rattle.theory.specs.Model.Greatest.{greatest}
-use Rattle.theory.proofs.Analysis.Clearing.{clearing}
+use Rattle.theory.specs.Analysis.Clearing.{clearing}
 use Rattle.theory.specs.Model.Chain.{sampling, sampling_release, bound}
 use Rattle.sheet.specs.Fields.{task_fields, entry_fields, chain_fields, among, in_order}
 use Rattle.sheet.specs.Calls.{judge_of}

@@ -10,7 +10,8 @@ use Rattle.theory.specs.declared.Task.{Task}
 use Rattle.theory.specs.Model.Schedule.{none, period}
 use Rattle.theory.specs.Model.Chain.{outranked, bound, walk_bound}
 use Rattle.theory.specs.Model.Recurrence.{quick_response}
-use Rattle.theory.proofs.Analysis.Largest.{SmallTask, common_most, along_chain, bound_most}
+use Rattle.theory.specs.Analysis.Largest.{SmallTask}
+use Rattle.theory.proofs.Analysis.Largest.{common_most, along_chain, bound_most}
 use Rattle.answers.specs.Answers.{fine}
 use Rattle.sheet.specs.declared.Sheet.{Sheet}
 use Rattle.sheet.specs.Sound.{Sound}

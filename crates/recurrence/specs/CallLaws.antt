@@ -7,7 +7,8 @@ use Rattle.theory.specs.declared.Task.{Task}
 use Rattle.theory.specs.Model.Schedule.{none, period, rank, Slot, idle, busy}
 use Rattle.theory.specs.Model.Greatest.{outranking, greatest}
 use Rattle.theory.specs.Model.Recurrence.{quick_response}
-use Rattle.theory.proofs.Analysis.GreatestLaws.{IsGreatest, greatest_is}
+use Rattle.theory.specs.Analysis.GreatestLaws.{IsGreatest}
+use Rattle.theory.proofs.Analysis.GreatestLaws.{greatest_is}
 use Rattle.answers.specs.declared.Refusal.{Refusal}
 use Rattle.answers.specs.Answers.{given, refused, Judgement, fine, also, refusal}
 use Rattle.answers.specs.AnswerLaws.{also_given}

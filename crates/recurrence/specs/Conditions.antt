@@ -5,7 +5,7 @@ use Rattle.theory.specs.declared.Task.{Task}
 use Rattle.theory.specs.Model.Schedule.{period, budget}
 use Rattle.theory.specs.Model.Chain.{Chain, outranks, outranked}
 use Rattle.theory.specs.Model.Recurrence.{quotient, quick_response}
-use Rattle.theory.proofs.Analysis.Largest.{pair_bound}
+use Rattle.theory.specs.Analysis.Largest.{pair_bound}
 use Rattle.sheet.specs.declared.Sheet.{Sheet}
 use Rattle.sheet.specs.Tasks.{tasks_of, first_of, rest_of}
 

@@ -15,8 +15,10 @@ use Rattle.arith.specs.RangeLaws.{sum_le, sum_const}
 use Rattle.theory.specs.Model.Schedule.{none, period, budget, rank, need, released, due}
 use Rattle.theory.specs.Model.Responses.{full, response, jobs}
 use Rattle.theory.proofs.Analysis.Work.{due_step, due_jobs}
-use Rattle.theory.proofs.Analysis.Level.{level, level_add, level_le, level_eq, level_own}
-use Rattle.theory.proofs.Analysis.Backlog.{load, drain, backlog_unfinished}
+use Rattle.theory.specs.Analysis.Level.{level}
+use Rattle.theory.proofs.Analysis.Level.{level_add, level_le, level_eq, level_own}
+use Rattle.theory.specs.Analysis.Backlog.{load, drain}
+use Rattle.theory.proofs.Analysis.Backlog.{backlog_unfinished}
 use Rattle.theory.proofs.Analysis.Existence.{full_schedule}
 use Rattle.theory.proofs.Analysis.ResponseLaws.{zero_on_time, first_zero_response, no_zero_late}
 use Rattle.theory.proofs.Analysis.Hyperperiod.{jobs_whole}

@@ -9,8 +9,9 @@ use lib.ListN.{length, get_or, set, length-set}
 use lib.Seq.{get_or-set_same, get_or-set_other}
 use borrow.Author.Count.{below_more}
 use Rattle.arith.specs.Ranges.{sum}
-use Rattle.theory.proofs.Analysis.Backlog.{drain, drain_stretch}
-use Rattle.theory.proofs.Analysis.Finish.{FirstZero}
+use Rattle.theory.specs.Analysis.Backlog.{drain}
+use Rattle.theory.proofs.Analysis.Backlog.{drain_stretch}
+use Rattle.theory.specs.Analysis.Finish.{FirstZero}
 use Rattle.schedule.specs.Conditions.{rests_to, Cleared, Blocked, Walk}
 
 pub rests_most : (a : ℕ → ℕ) (t : ℕ) → rests_to a t ≤ t

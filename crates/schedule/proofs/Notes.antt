@@ -14,7 +14,7 @@ use Rattle.arith.specs.RangeLaws.{sum_eq, below_suc}
 use Rattle.theory.specs.Model.Schedule.{none, rank, Slot, idle, busy}
 use Rattle.theory.specs.Model.Greatest.{outranking, greatest}
 use Rattle.theory.specs.Model.Responses.{full, hyperperiod, idle_ticks}
-use Rattle.theory.proofs.Analysis.Backlog.{load}
+use Rattle.theory.specs.Analysis.Backlog.{load}
 use Rattle.theory.proofs.Analysis.Existence.{full_schedule}
 use Rattle.theory.proofs.Analysis.Idle.{idle_backlog}
 use Rattle.sheet.specs.declared.Sheet.{Sheet}

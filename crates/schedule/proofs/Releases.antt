@@ -15,7 +15,7 @@ use Rattle.arith.specs.WholeLaws.{up_divides, up_above, up_near, up_least, up_is
 use Rattle.theory.specs.declared.Task.{Task}
 use Rattle.arith.specs.Ranges.{sum}
 use Rattle.arith.specs.RangeLaws.{sum_zero, sum_grows}
-use Rattle.theory.proofs.Analysis.Backlog.{drain}
+use Rattle.theory.specs.Analysis.Backlog.{drain}
 use Rattle.schedule.specs.declared.answer.Turn.{Turn}
 use Rattle.schedule.specs.Conditions.{brings, Places, placed, coming, NextAt, Turned}
 use Rattle.schedule.proofs.Draining.{Gap}

@@ -5,9 +5,9 @@ use Rattle.theory.specs.declared.Task.{Task}
 use Rattle.arith.specs.Ranges.{sum}
 use Rattle.theory.specs.Model.Schedule.{period, budget, rank, idle, busy}
 use Rattle.theory.specs.Model.Responses.{full, hyperperiod}
-use Rattle.theory.proofs.Analysis.Level.{level}
-use Rattle.theory.proofs.Analysis.Backlog.{load, drain}
-use Rattle.theory.proofs.Analysis.Finish.{FirstZero}
+use Rattle.theory.specs.Analysis.Level.{level}
+use Rattle.theory.specs.Analysis.Backlog.{load, drain}
+use Rattle.theory.specs.Analysis.Finish.{FirstZero}
 use Rattle.sheet.specs.declared.Sheet.{Sheet}
 use Rattle.answers.specs.declared.Refusal.{Refusal}
 use Rattle.answers.specs.declared.Refusal.TheVariants.{Number, With}

@@ -6,7 +6,8 @@ use Rattle.theory.specs.declared.Task.{Task}
 use Rattle.arith.specs.Ranges.{least}
 use Rattle.arith.specs.RangeLaws.{least_passes, least_first}
 use Rattle.theory.specs.Model.Schedule.{release, rank, Proper, need, Slot, idle, busy, done}
-use Rattle.theory.proofs.Analysis.GreatestLaws.{IsGreatest, greatest_is}
+use Rattle.theory.specs.Analysis.GreatestLaws.{IsGreatest}
+use Rattle.theory.proofs.Analysis.GreatestLaws.{greatest_is}
 use Rattle.theory.specs.Model.Responses.{full, full_budget, jobs, Late, LateTask, Accepted}
 use Rattle.theory.proofs.Analysis.Hyperperiod.{jobs_released, released_jobs}
 use Rattle.schedule.specs.Calls.{late, late_task, late_greatest}

@@ -7,26 +7,9 @@ use Rattle.std.proofs.Math.Decide.{dec_le, dec_lt}
 use Rattle.theory.specs.declared.Task.{Task}
 use Rattle.theory.specs.Model.Schedule.{period, rank, Demands, released, due, Slot, idle, busy, Run, runs, done, Pending, Schedule}
 use Rattle.arith.specs.Ranges.{sum}
-use Rattle.theory.specs.Model.Responses.{full}
-use Rattle.theory.proofs.Analysis.Level.{level, cond_le, level_zero, level_add, level_le, level_tight, level_runs_lem}
+use Rattle.theory.proofs.Analysis.Level.{cond_le, level_zero, level_add, level_le, level_tight, level_runs_lem}
 use Rattle.theory.proofs.Analysis.Work.{runs_most, runs_busy, done_step, due_step}
-
--- The work of the level that is released at tick t.
-unfoldable pub load : List Task → Demands → ℕ → ℕ → ℕ
-unfolding level released
-load ts d i t = level ts i (λ j. released ts d j t)
-
--- What is left before tick t where work comes in, a x of it at tick x, and one unit is done at each tick while there is any.
-unfoldable pub drain : (ℕ → ℕ) → ℕ → ℕ
-drain a zero = 0
-drain a (suc t) = (drain a t + a t) - 1
-
--- The backlog of the level of task i, just before the releases of tick t.
-abbrev pub backlog : List Task → Demands → ℕ → ℕ → ℕ
-backlog ts d i = drain (load ts d i)
-
-abbrev pub full_backlog : List Task → ℕ → ℕ → ℕ
-full_backlog ts = backlog ts (full ts)
+use Rattle.theory.specs.Analysis.Backlog.{load, drain, backlog, level_done, level_due, level_runs}
 
 pub drain_step : (a : ℕ → ℕ) (t : ℕ) → drain a (suc t) ≡ (drain a t + a t) - 1
 unfolding drain
@@ -48,16 +31,6 @@ backlog_start ts d i = refl
 
 pub backlog_step : (ts : List Task) (d : Demands) (i t : ℕ) → backlog ts d i (suc t) ≡ (backlog ts d i t + load ts d i t) - 1
 backlog_step ts d i t = drain_step (load ts d i) t
-
--- What the tasks of a level have done before tick t, what is due of them, and their ticks in a slot.
-abbrev pub level_done : List Task → Run → ℕ → ℕ → ℕ
-level_done ts run i t = level ts i (λ j. done run j t)
-
-abbrev pub level_due : List Task → Demands → ℕ → ℕ → ℕ
-level_due ts d i t = level ts i (λ j. due ts d j t)
-
-abbrev pub level_runs : List Task → ℕ → Slot → ℕ
-level_runs ts i x = level ts i (λ j. runs j x)
 
 module _ {ts : List Task} {d : Demands} {run : Run} (s : Schedule ts d run) where
   -- Never ahead: no task has done more than is due.

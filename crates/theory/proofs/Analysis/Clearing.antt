@@ -8,20 +8,11 @@ use Rattle.std.proofs.Math.Decide.{dec_lt}
 use Rattle.theory.specs.declared.Task.{Task}
 use Rattle.theory.specs.Model.Schedule.{period, release, Proper, need, done}
 use Rattle.theory.specs.Model.Responses.{full, full_budget, response, Late}
-use Rattle.theory.proofs.Analysis.Backlog.{load, drain, full_backlog, drain_step}
-use Rattle.theory.proofs.Analysis.Finish.{FirstZero}
+use Rattle.theory.specs.Analysis.Backlog.{load, drain}
+use Rattle.theory.proofs.Analysis.Backlog.{drain_step}
+use Rattle.theory.specs.Analysis.Finish.{FirstZero}
 use Rattle.theory.proofs.Analysis.ResponseLaws.{late_response, zero_on_time, response_first_zero, response_most}
-
--- From the backlog b just before the releases of tick t: the ticks until it is 0, or n where that is not below n.
-unfoldable pub until : (ℕ → ℕ) → ℕ → ℕ → ℕ → ℕ
-until a zero b t = 0
-until a (suc n) zero t = 0
-until a (suc n) (suc b) t = suc (until a n (b + a t) (suc t))
-
--- The ticks from the release of job k of task i until the backlog of its level is 0, or T + 1 where that is after the next release.
-unfoldable pub clearing : List Task → ℕ → ℕ → ℕ
-unfolding until load drain
-clearing ts i k = suc (until (load ts (full ts) i) (period ts i) (full_backlog ts i (suc (release ts i k))) (suc (release ts i k)))
+use Rattle.theory.specs.Analysis.Clearing.{until, clearing}
 
 -- The count stops at the first zero, if it comes within n
 

@@ -10,9 +10,12 @@ use Rattle.arith.specs.RangeLaws.{below_suc}
 use Rattle.theory.specs.Model.Schedule.{period, budget, rank, Proper}
 use Rattle.theory.specs.Model.Responses.{response, hyperperiod, jobs, task_response, Accepted}
 use Rattle.theory.proofs.Analysis.Hyperperiod.{released_jobs}
-use Rattle.theory.proofs.Analysis.Clearing.{clearing, response_clearing, late_clearing}
+use Rattle.theory.specs.Analysis.Clearing.{clearing}
+use Rattle.theory.proofs.Analysis.Clearing.{response_clearing, late_clearing}
 use Rattle.theory.specs.Model.Chain.{Chain, outranked, delay, sampling, sampling_release, bound}
-use Rattle.theory.proofs.Analysis.WalkLaws.{Along, chain_along, Alike, alike_self, walk_delay_same, walk_worst_same, walk_worst_release_same, walk_bound_same}
+use Rattle.theory.specs.Analysis.WalkLaws.{Along, Alike}
+use Rattle.theory.proofs.Analysis.WalkLaws.{chain_along, alike_self, walk_delay_same, walk_worst_same, walk_worst_release_same, walk_bound_same}
+use Rattle.theory.specs.Analysis.Evaluation.{Row}
 
 -- What is decided to hold holds.
 pub decided : {P : Type 0} (d : Dec P) → T (decide d) → P
@@ -59,11 +62,6 @@ clears_accepted good clears = record {
   proper = good;
   none_late = λ i l x. omega (arith, clears i l x.0 (released_jobs good i l x.0 x.1), late_clearing good i x.0 l x.2);
 }
-
--- The row of task i: its responses, in release order, of the jobs released before H.
-pub record Row (ts : List Task) (i : ℕ) (row : List ℕ) : Type 0 where
-  pub whole : length row ≡ jobs ts i
-  pub each : (k : ℕ) → k < jobs ts i → response ts i k ≡ get_or row k 0
 
 unfoldable pub row? : (ts : List Task) (i : ℕ) (row : List ℕ) → Dec ((k : ℕ) → k < jobs ts i → clearing ts i k ≡ get_or row k 0)
 unfolding all? ℕ_discrete clearing hyperperiod

@@ -9,7 +9,8 @@ use Rattle.theory.specs.declared.Task.{Task}
 use Rattle.theory.specs.Model.Schedule.{rank, Proper, Demands, due, Slot, idle, busy, Run, runs, done, Pending, Schedule}
 use Rattle.theory.proofs.Analysis.Work.{due_demands}
 use Rattle.theory.specs.Model.Responses.{full, full_budget}
-use Rattle.theory.proofs.Analysis.GreatestLaws.{IsGreatest, greatest_is}
+use Rattle.theory.specs.Analysis.GreatestLaws.{IsGreatest}
+use Rattle.theory.proofs.Analysis.GreatestLaws.{greatest_is}
 use Rattle.theory.specs.Model.Simulate.{choice, ticks, simulate}
 use Rattle.arith.specs.Ranges.{sum}
 

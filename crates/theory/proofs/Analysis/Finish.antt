@@ -5,13 +5,9 @@ use Rattle.std.proofs.Math.Decide.{ℕ_discrete}
 use Rattle.theory.specs.declared.Task.{Task}
 use Rattle.theory.specs.Model.Schedule.{release, rank, Proper, Demands, need, due, Run, done, Pending, Schedule, Starts, Finishes}
 use Rattle.theory.proofs.Analysis.Work.{done_busy, done_grows, done_passes, need_step, need_grows, due_covers, due_most}
-use Rattle.theory.proofs.Analysis.Backlog.{backlog, backlog_empty, empty_backlog}
-
--- After tick r the function f is first 0 at z.
-pub record FirstZero (f : ℕ → ℕ) (r z : ℕ) : Type 0 where
-  pub after : r < z
-  pub is_zero : f z ≡ 0
-  pub first : (x : ℕ) → r < x → f x ≡ 0 → z ≤ x
+use Rattle.theory.specs.Analysis.Backlog.{backlog}
+use Rattle.theory.proofs.Analysis.Backlog.{backlog_empty, empty_backlog}
+use Rattle.theory.specs.Analysis.Finish.{FirstZero}
 
 pub first_zero_unique : {f : ℕ → ℕ} {r y z : ℕ} → FirstZero f r y → FirstZero f r z → y ≡ z
 first_zero_unique {y = y} {z = z} p q = le_antisymm (p.first z q.after q.is_zero) (q.first y p.after p.is_zero)

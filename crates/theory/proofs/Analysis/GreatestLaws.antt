@@ -1,15 +1,11 @@
 -- The law of `greatest`: of the tasks that pass a test it gives the one of greatest rank.
-use Rattle.std.specs.Prelude.{◌≡◌, refl, Bool, true, false, cond, ℕ, zero, suc, ◌≤◌, ◌<◌, ltb}
+use Rattle.std.specs.Prelude.{◌≡◌, refl, Bool, true, false, cond, ℕ, zero, suc, ◌≤◌, ltb}
 use Rattle.std.proofs.Common.{sym, ◌∙◌, le_refl, arith, ltb-true, ltb-false}
 use Rattle.std.proofs.lemmas.Bool.{false≢true}
 use Rattle.arith.specs.RangeLaws.{below_suc}
 use Rattle.theory.specs.Model.Schedule.{Slot, idle, busy}
 use Rattle.theory.specs.Model.Greatest.{outranking, greatest}
-
--- The slot holds the task below n of greatest rank that passes the test, or is idle where none does.
-abbrev pub IsGreatest : (ℕ → ℕ) → (ℕ → Bool) → ℕ → Slot → Type 0
-IsGreatest rank test n idle = (j : ℕ) → j < n → test j ≡ false
-IsGreatest rank test n (busy i) = (i < n) × (test i ≡ true) × ((j : ℕ) → j < n → test j ≡ true → rank j ≤ rank i)
+use Rattle.theory.specs.Analysis.GreatestLaws.{IsGreatest}
 
 pub greatest_is : (rank : ℕ → ℕ) (test : ℕ → Bool) (n : ℕ) → IsGreatest rank test n (greatest rank test n)
 unfolding greatest

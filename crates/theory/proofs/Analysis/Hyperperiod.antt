@@ -7,6 +7,7 @@ use Rattle.arith.specs.WholeLaws.{lcm_divides_left, lcm_divides_right, lcm_least
 use Rattle.theory.specs.declared.Task.{Task}
 use Rattle.theory.specs.Model.Schedule.{period, release, Proper}
 use Rattle.theory.specs.Model.Responses.{hyperperiod, jobs}
+use Rattle.theory.specs.Analysis.Hyperperiod.{Cycle}
 
 pub hyperperiod_multiple : (ts : List Task) (i : ℕ) → i < length ts → period ts i ∣ hyperperiod ts
 unfolding hyperperiod
@@ -26,12 +27,6 @@ unfolding hyperperiod
 hyperperiod_positive [] h = omega arith
 hyperperiod_positive (x ∷ ts) h =
     lcm_pos x.period (hyperperiod ts) (h 0 (omega arith)) (hyperperiod_positive ts (λ i l. h (suc i) (omega arith)))
-
--- H is a cycle of n tasks: some whole number of periods of each.
-pub record Cycle (n H : ℕ) (T : ℕ → ℕ) : Type 0 where
-  pub some : 0 < H
-  pub positive : (i : ℕ) → i < n → 0 < T i
-  pub whole : (i : ℕ) → i < n → H / T i * T i ≡ H
 
 module _ {n H : ℕ} {T : ℕ → ℕ} (cycle : Cycle n H T) (i : ℕ) (known : i < n) where
   pub cycle_jobs : 0 < H / T i

@@ -9,7 +9,8 @@ use Rattle.theory.specs.Model.Schedule.{budget, rank, Demands, need, released, d
 use Rattle.theory.specs.Model.Responses.{full, full_budget, hyperperiod, jobs, rests, idle_ticks, Accepted}
 use Rattle.theory.proofs.Analysis.Work.{runs_self, runs_other, due_most}
 use Rattle.theory.proofs.Analysis.Level.{level_add, level_all}
-use Rattle.theory.proofs.Analysis.Backlog.{load, backlog, drain_step, done_most, backlog_unfinished}
+use Rattle.theory.specs.Analysis.Backlog.{load, backlog}
+use Rattle.theory.proofs.Analysis.Backlog.{drain_step, done_most, backlog_unfinished}
 use Rattle.theory.proofs.Analysis.Existence.{full_schedule}
 use Rattle.theory.proofs.Analysis.Hyperperiod.{jobs_whole}
 use Rattle.theory.proofs.Analysis.Repetition.{hyperperiod_done}

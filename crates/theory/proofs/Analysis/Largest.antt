@@ -6,15 +6,7 @@ use Rattle.std.proofs.Common.{arith}
 use Rattle.arith.specs.Whole.{gcd, up}
 use Rattle.arith.specs.WholeLaws.{gcd_divides_right, gcd_pos, up_near}
 use Rattle.theory.specs.Model.Chain.{ChainOf, Waits, walk_bound}
-
--- What a pair of neighbours adds to the quick bound.
-abbrev pub pair_bound : (ℕ → ℕ) → Waits → (ℕ → ℕ) → ℕ → ℕ → ℕ
-pair_bound T waits R p c = (T c - gcd (T p) (T c)) + cond (waits p c) (up (gcd (T p) (T c)) (R p)) 0
-
--- What holds of every task on a chain.
-abbrev pub Along : (ℕ → Type 0) → ℕ → List ℕ → Type 0
-Along P p [] = P p
-Along P p (c ∷ rest) = P p × Along P c rest
+use Rattle.theory.specs.Analysis.Largest.{pair_bound, Along, SmallTask}
 
 pub along_first : (P : ℕ → Type 0) (p : ℕ) (rest : List ℕ) → Along P p rest → P p
 along_first P p [] x = x
@@ -23,12 +15,6 @@ along_first P p (c ∷ rest) x = x.0
 pub along_chain : (P : ℕ → Type 0) (n : ℕ) → ((i : ℕ) → i < n → P i) → (p : ℕ) (rest : List ℕ) → ChainOf n p rest → Along P p rest
 along_chain P n each p [] l = each p l
 along_chain P n each p (c ∷ rest) l = (each p l.0, along_chain P n each c rest l.2)
-
--- The period of task i and its response are at most so many ticks.
-pub record SmallTask (most : ℕ) (T R : ℕ → ℕ) (i : ℕ) : Type 0 where
-  pub period_positive : 0 < T i
-  pub period_most : T i ≤ most
-  pub response_most : R i ≤ most
 
 pub common_most : (T : ℕ → ℕ) (p c : ℕ) → 0 < T p → 0 < T c → (0 < gcd (T p) (T c)) × (gcd (T p) (T c) ≤ T c)
 common_most T p c sp sc = (gcd_pos (T p) (T c) sp, le_of_dvd sc (gcd_divides_right (T p) (T c)))

@@ -10,15 +10,7 @@ use Rattle.arith.specs.Ranges.{sum}
 use Rattle.arith.specs.RangeLaws.{sum_add, sum_le, sum_eq, sum_zero, sum_point, sum_tight}
 use Rattle.theory.specs.Model.Schedule.{rank, Proper, busy, runs}
 use Rattle.theory.proofs.Analysis.Work.{runs_self, runs_other}
-
--- Task j is of the level of task i where its rank is at least i's.
-abbrev in_level : List Task → ℕ → ℕ → Bool
-in_level ts i j = leb (rank ts i) (rank ts j)
-
--- The sum of f over the level of task i.
-unfoldable pub level : List Task → ℕ → (ℕ → ℕ) → ℕ
-unfolding sum
-level ts i f = sum (length ts) (λ j. cond (in_level ts i j) (f j) 0)
+use Rattle.theory.specs.Analysis.Level.{in_level, level}
 
 cond_add : (b : Bool) (x y : ℕ) → cond b (x + y) 0 ≡ cond b x 0 + cond b y 0
 cond_add true x y = refl

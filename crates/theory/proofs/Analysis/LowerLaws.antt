@@ -1,5 +1,5 @@
 -- A task's responses do not know the tasks that are ranked below it: its level names none of them, so its backlog is the same without them.
-use Rattle.std.specs.Prelude.{◌≡◌, refl, List, cond, leb, eqb}
+use Rattle.std.specs.Prelude.{◌≡◌, refl, List, leb, eqb}
 use Rattle.std.proofs.Math.Path.{sym, ap, ap₂, fun_ext}
 use Rattle.std.proofs.Common.{◌∙◌, arith}
 use Prim.Native.Nat.{ℕ, suc, ◌+◌, ◌*◌, ◌%◌, ◌≤◌, ◌<◌}
@@ -11,24 +11,13 @@ use Rattle.arith.specs.RangeLaws.{sum_eq, sum_longer}
 use Rattle.theory.specs.declared.Task.{Task}
 use Rattle.theory.specs.Model.Schedule.{none, rank, Proper, released}
 use Rattle.theory.specs.Model.Responses.{full, response, task_response}
-use Rattle.theory.proofs.Analysis.Level.{level, cond_zero}
-use Rattle.theory.proofs.Analysis.Backlog.{load, drain}
-use Rattle.theory.proofs.Analysis.Clearing.{until, clearing, response_clearing}
+use Rattle.theory.specs.Analysis.Level.{level}
+use Rattle.theory.proofs.Analysis.Level.{cond_zero}
+use Rattle.theory.specs.Analysis.Backlog.{load, drain}
+use Rattle.theory.specs.Analysis.Clearing.{until, clearing}
+use Rattle.theory.proofs.Analysis.Clearing.{response_clearing}
 use Rattle.theory.proofs.Analysis.QuickLaws.{quick_response_first, quick_response_task}
-
--- Task i of the list has at least this rank.
-pub record From (rank₀ : ℕ) (ts : List Task) (i : ℕ) : Type 0 where
-  pub known : i < length ts
-  pub ranked : rank₀ ≤ rank ts i
-
--- Wherever a task of either list has at least this rank, both lists hold the same.
-pub record SameFrom (rank₀ : ℕ) (ts us : List Task) : Type 0 where
-  pub left : (i : ℕ) → From rank₀ ts i → (i < length us) × (get_or ts i none ≡ get_or us i none)
-  pub right : (i : ℕ) → From rank₀ us i → (i < length ts) × (get_or ts i none ≡ get_or us i none)
-
--- What task y gives at tick t to the load of the level of task x.
-abbrev share : ℕ → Task → Task → ℕ
-share t x y = cond (leb x.rank y.rank) (cond (eqb (t % y.period) 0) y.budget 0) 0
+use Rattle.theory.specs.Analysis.LowerLaws.{From, SameFrom, share}
 
 share_lower : (t : ℕ) (x y : Task) → y.rank < x.rank → share t x y ≡ 0
 share_lower t x y l = rw (lt-leb x.rank y.rank l)

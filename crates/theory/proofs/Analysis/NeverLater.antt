@@ -4,8 +4,10 @@ use Rattle.std.proofs.Common.{arith}
 use Rattle.theory.specs.declared.Task.{Task}
 use Rattle.theory.specs.Model.Schedule.{release, Proper, Demands, Within, need, Run, done, Schedule, Starts, Finishes}
 use Rattle.theory.specs.Model.Responses.{full, response, Accepted}
-use Rattle.theory.proofs.Analysis.Backlog.{full_backlog, backlog_mono}
-use Rattle.theory.proofs.Analysis.Finish.{FirstZero, done_starts, done_finishes, finish_least, finish_unique, zero_done}
+use Rattle.theory.specs.Analysis.Backlog.{full_backlog}
+use Rattle.theory.proofs.Analysis.Backlog.{backlog_mono}
+use Rattle.theory.specs.Analysis.Finish.{FirstZero}
+use Rattle.theory.proofs.Analysis.Finish.{done_starts, done_finishes, finish_least, finish_unique, zero_done}
 use Rattle.theory.proofs.Analysis.ResponseLaws.{response_first_zero, response_finishes}
 use Rattle.theory.proofs.Analysis.Repetition.{never_late}
 

@@ -1,5 +1,6 @@
 -- The paths of a run: from each job there is one, it is no longer than the delay of its chain, and where ranks rise it is as long at full budgets.
-use Rattle.std.specs.Prelude.{◌≡◌, ◌≢◌, false, ℕ, suc, ◌+◌, ◌/◌, ◌≤◌, ◌<◌}
+-- A run has at most one path from a job
+use Rattle.std.specs.Prelude.{◌≡◌, ◌≢◌, false, ℕ, suc, ◌+◌, ◌≤◌, ◌<◌}
 use Rattle.std.proofs.Common.{sym, ap, ◌∙◌, subst, le_antisymm, mul-div_cancel, mul-le-mul_right, arith, ltb-false}
 use mathlib.Core.List.{List, [], ◌∷◌}
 use Rattle.std.proofs.Math.ListN.{length}
@@ -15,9 +16,9 @@ use Rattle.theory.proofs.Analysis.Repetition.{never_late, response_period}
 use Rattle.theory.proofs.Analysis.NeverLater.{full_within, job_starts, job_finishes, finish_response}
 use Rattle.theory.specs.Model.Chain.{Chain, outranked, next_release, delay, HandOver, PathEnds, Rising}
 use Rattle.theory.proofs.Analysis.ChainLaws.{chain_head, next_outranking, next_job_lem, delay_step}
-use Rattle.theory.proofs.Analysis.WalkPaths.{Keeps, walk_path_within, walk_path_exists}
-
--- A run has at most one path from a job
+use Rattle.theory.specs.Analysis.WalkPaths.{Keeps}
+use Rattle.theory.proofs.Analysis.WalkPaths.{walk_path_within, walk_path_exists}
+use Rattle.theory.specs.Analysis.Paths.{next_job}
 
 hand_over_unique : {d : Demands} {run : Run} {p c k m n : ℕ} → HandOver d run p c k m → HandOver d run p c k n → m ≡ n
 hand_over_unique x y = le_antisymm (one x y) (one y x)
@@ -74,10 +75,6 @@ module _ {ts : List Task} (ok : Accepted ts) {d : Demands} {run : Run} (s : Sche
   path_exists = walk_path_exists schedule_keeps
 
 -- Full budgets and rising ranks
-
--- The job of c that the walk goes on with from job k of p.
-abbrev next_job : List Task → ℕ → ℕ → ℕ → ℕ
-next_job ts p c k = next_release ts (response ts) p c (release ts p k) / period ts c
 
 next_released : (ts : List Task) (p c k : ℕ) → release ts c (next_job ts p c k) ≡ next_release ts (response ts) p c (release ts p k)
 next_released ts p c k = next_job_lem ts (response ts) p c (release ts p k)

@@ -9,8 +9,9 @@ use Rattle.theory.specs.declared.Task.{Task}
 use Rattle.theory.specs.Model.Schedule.{period, budget, release, Proper, need, done}
 use Rattle.theory.specs.Model.Responses.{full, full_budget, response, jobs, task_response, Late, LateTask, Accepted}
 use Rattle.theory.specs.Model.Recurrence.{claim, quick_response, Passing, EverLate}
-use Rattle.theory.proofs.Analysis.Backlog.{load, full_backlog, backlog_start, backlog_step, level_due}
-use Rattle.theory.proofs.Analysis.Finish.{FirstZero}
+use Rattle.theory.specs.Analysis.Backlog.{load, full_backlog, level_due}
+use Rattle.theory.proofs.Analysis.Backlog.{backlog_start, backlog_step}
+use Rattle.theory.specs.Analysis.Finish.{FirstZero}
 use Rattle.theory.proofs.Analysis.ResponseLaws.{late_response, zero_on_time, response_first_zero, response_most}
 use Rattle.theory.proofs.Analysis.Hyperperiod.{hyperperiod_positive, jobs_positive}
 use Rattle.theory.proofs.Analysis.RecurrenceLaws.{claim_own, fixed_point_most, fixed_point_least, dues_start, dues_step, dues_claim, busy_backlog, fixed_point_empty}

@@ -1,5 +1,6 @@
 -- The least fixed point: a search that climbs finds it, and where it does not pass the period the level's backlog, each job at its cost,
 -- is empty within that time of every tick.
+-- The quotient
 use Rattle.std.specs.Prelude.{◌≡◌, List, Bool, eqb, length}
 use Rattle.std.proofs.Common.{sym, ◌∙◌, subst, le_refl, le_trans, le_antisymm, add-zero, mul_comm, div-lt_iff_lt-mul, mul-le-mul_left, mul-le-mul_right, pos_of_ne-zero}
 use Rattle.std.proofs.Math.Path.{ap, ap₂}
@@ -14,14 +15,14 @@ use Rattle.arith.specs.WholeLaws.{up_above, up_near}
 use Rattle.arith.specs.Ranges.{sum, least}
 use Rattle.arith.specs.RangeLaws.{sum_le, sum_eq, sum_const, least_within, least_passes, least_first}
 use Rattle.theory.specs.declared.Task.{Task}
-use Rattle.theory.specs.Model.Schedule.{period, rank, Proper, Demands, need, due}
+use Rattle.theory.specs.Model.Schedule.{period, rank, Proper, need, due}
 use Rattle.theory.specs.Model.Chain.{outranks}
 use Rattle.theory.specs.Model.Recurrence.{Costs, quotient, claim, fixed_point}
 use Rattle.theory.proofs.Analysis.Work.{due_jobs}
 use Rattle.theory.proofs.Analysis.Level.{cond_le, level_zero, level_add, level_le, level_own}
-use Rattle.theory.proofs.Analysis.Backlog.{load, backlog, level_due, backlog_start, backlog_step}
-
--- The quotient
+use Rattle.theory.specs.Analysis.Backlog.{load, backlog, level_due}
+use Rattle.theory.proofs.Analysis.Backlog.{backlog_start, backlog_step}
+use Rattle.theory.specs.Analysis.RecurrenceLaws.{at_cost}
 
 module _ (T : ℕ) (positive : 0 < T) where
   quotient_zero : quotient 0 T ≡ 0
@@ -131,10 +132,6 @@ module _ {ts : List Task} {cost : Costs} {i x : ℕ} (at : Climbs ts cost i x) w
       inside h = omega (arith, at.unpassed (fixed_point ts cost i) (fixed_point_fixed ts cost i h))
 
 -- What is due where each job needs its task's cost
-
--- Each job of task i needs cost i.
-abbrev pub at_cost : Costs → Demands
-at_cost cost i k = cost i
 
 -- Before tick x as many jobs are released as x holds periods, rounded up.
 due_cost : (ts : List Task) (cost : Costs) (j x : ℕ) → 0 < period ts j → due ts (at_cost cost) j x ≡ cost j * quotient x (period ts j)

@@ -13,8 +13,9 @@ use Rattle.theory.specs.Model.Responses.{full, full_budget, response, hyperperio
 use Rattle.arith.specs.RangeLaws.{maximum_above}
 use Rattle.theory.proofs.Analysis.Work.{due_most}
 use Rattle.theory.proofs.Analysis.Level.{level_eq}
-use Rattle.theory.proofs.Analysis.Backlog.{full_backlog, load, drain, empty_backlog}
-use Rattle.theory.proofs.Analysis.Finish.{FirstZero}
+use Rattle.theory.specs.Analysis.Backlog.{full_backlog, load, drain}
+use Rattle.theory.proofs.Analysis.Backlog.{empty_backlog}
+use Rattle.theory.specs.Analysis.Finish.{FirstZero}
 use Rattle.theory.proofs.Analysis.Existence.{full_schedule}
 use Rattle.theory.proofs.Analysis.Hyperperiod.{jobs_whole, jobs_positive, jobs_released}
 use Rattle.theory.proofs.Analysis.ResponseLaws.{zero_on_time, response_first_zero, first_zero_response, response_most}

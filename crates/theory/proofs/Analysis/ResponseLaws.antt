@@ -8,9 +8,10 @@ use Rattle.theory.specs.Model.Schedule.{period, release, Proper, need, Run, done
 use Rattle.theory.specs.Model.Responses.{full, full_budget, finish, response, Late}
 use Rattle.arith.specs.RangeLaws.{least_within, least_passes, least_first}
 use Rattle.theory.proofs.Analysis.Work.{done_grows}
-use Rattle.theory.proofs.Analysis.Backlog.{full_backlog}
+use Rattle.theory.specs.Analysis.Backlog.{full_backlog}
 use Rattle.theory.proofs.Analysis.Existence.{full_schedule}
-use Rattle.theory.proofs.Analysis.Finish.{FirstZero, first_zero_unique, finish_least, zero_done, first_zero_finish, on_time_zero}
+use Rattle.theory.specs.Analysis.Finish.{FirstZero}
+use Rattle.theory.proofs.Analysis.Finish.{first_zero_unique, finish_least, zero_done, first_zero_finish, on_time_zero}
 
 -- The finish, as its search finds it
 

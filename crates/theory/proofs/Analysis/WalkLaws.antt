@@ -12,8 +12,10 @@ use Rattle.arith.specs.Whole.{gcd, up}
 use Rattle.arith.specs.WholeLaws.{gcd_divides_left, gcd_divides_right, gcd_pos, gap_multiple, up_divides, up_above, up_near, up_mono, up_shift}
 use Rattle.arith.specs.Ranges.{maximum, least}
 use Rattle.arith.specs.RangeLaws.{maximum_above, maximum_least, maximum_reached, least_passes, least_first}
-use Rattle.theory.proofs.Analysis.Hyperperiod.{Cycle, cycle_jobs, cycle_before}
+use Rattle.theory.specs.Analysis.Hyperperiod.{Cycle}
+use Rattle.theory.proofs.Analysis.Hyperperiod.{cycle_jobs, cycle_before}
 use Rattle.theory.specs.Model.Chain.{ChainOf, Waits, Table, walk_next, walk_delay, walk_worst, walk_worst_release, walk_bound, GreatestOf}
+use Rattle.theory.specs.Analysis.WalkLaws.{Along, Alike}
 
 pub chain_first : (n p : ℕ) (rest : List ℕ) → ChainOf n p rest → p < n
 chain_first n p [] l = l
@@ -200,11 +202,6 @@ module _ {T : ℕ} {delays : ℕ → ℕ} where
 
 -- Figures by functions that agree on the tasks of a chain are equal
 
--- Each task of a chain is one of these.
-abbrev pub Along : (ℕ → Type 0) → ℕ → List ℕ → Type 0
-Along These p [] = These p
-Along These p (c ∷ rest) = These p × Along These c rest
-
 pub along_first : (These : ℕ → Type 0) (p : ℕ) (rest : List ℕ) → Along These p rest → These p
 along_first These p [] on = on
 along_first These p (c ∷ rest) on = on.0
@@ -212,11 +209,6 @@ along_first These p (c ∷ rest) on = on.0
 pub chain_along : (n p : ℕ) (rest : List ℕ) → ChainOf n p rest → Along (λ i. i < n) p rest
 chain_along n p [] l = l
 chain_along n p (c ∷ rest) l = (l.0, chain_along n c rest l.2)
-
--- These tasks have the same periods, and the same hand-overs between them wait.
-pub record Alike (These : ℕ → Type 0) (T T' : ℕ → ℕ) (waits waits' : Waits) : Type 0 where
-  pub periods : (i : ℕ) → These i → T i ≡ T' i
-  pub hand_overs : (p c : ℕ) → These p → These c → waits p c ≡ waits' p c
 
 pub alike_self : (These : ℕ → Type 0) (T : ℕ → ℕ) (waits : Waits) → Alike These T T waits waits
 alike_self These T waits = record { periods = λ i l. refl; hand_overs = λ p c lp lc. refl }

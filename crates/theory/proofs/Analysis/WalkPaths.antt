@@ -10,18 +10,7 @@ use Rattle.theory.specs.Model.Schedule.{Demands, Run, Starts, Finishes}
 use Rattle.theory.specs.Model.Chain.{ChainOf, Waits, Table, walk_next, walk_delay, HandOver, PathEnds}
 use Rattle.theory.proofs.Analysis.Finish.{start_unique}
 use Rattle.theory.proofs.Analysis.WalkLaws.{chain_first, walk_next_finish, walk_next_job, walk_next_later, walk_delay_step}
-
--- What a walk needs of a run: jobs start, at or after their release, and finish, within their response after it; responses are within periods;
--- and where a hand-over does not wait, no job of the consumer starts before one of the producer that is released no later has finished.
-pub record Keeps (n : ℕ) (T : ℕ → ℕ) (waits : Waits) (table : Table) (d : Demands) (run : Run) : Type 0 where
-  pub positive : (i : ℕ) → i < n → 0 < T i
-  pub starts : (i k : ℕ) → i < n → (t : ℕ) × Starts d run i k t
-  pub finishes : (i k : ℕ) → i < n → (f : ℕ) × Finishes d run i k f
-  pub released : (i k t : ℕ) → i < n → Starts d run i k t → k * T i ≤ t
-  pub in_time : (i k f : ℕ) → i < n → Finishes d run i k f → f ≤ k * T i + table i k
-  pub by_next : (i k : ℕ) → i < n → table i k ≤ T i
-  pub in_order : (p c k m f t : ℕ) → p < n → c < n → p ≢ c → waits p c ≡ false → k * T p ≤ m * T c
-      → Finishes d run p k f → Starts d run c m t → f ≤ t
+use Rattle.theory.specs.Analysis.WalkPaths.{Keeps}
 
 module _ {n : ℕ} {T : ℕ → ℕ} {waits : Waits} {table : Table} {d : Demands} {run : Run} (keeps : Keeps n T waits table d run) where
   -- The job of c that the walk goes on with from job k of p.

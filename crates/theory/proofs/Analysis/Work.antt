@@ -1,4 +1,5 @@
 -- Laws of `done`, `need` and `due`: how they go on by a tick or a job, and that the work due is that of the jobs released.
+-- One tick's share
 use Rattle.std.specs.Prelude.{◌≡◌, refl, ◌≢◌, List, Bool, true, false, cond, eqb}
 use Rattle.std.proofs.Common.{sym, ◌∙◌, div-add-mod', mod-lt, mod-eq_of_lt, le-div_iff_mul-le, div-lt_iff_lt-mul, eqb-true, eq-eqb, ne_eqb}
 use Rattle.std.proofs.Math.Path.{ap}
@@ -10,8 +11,7 @@ use Rattle.theory.specs.declared.Task.{Task}
 use Rattle.theory.specs.Model.Schedule.{period, release, Demands, need, released, due, Slot, idle, busy, Run, runs, done}
 use Rattle.arith.specs.Ranges.{sum}
 use Rattle.arith.specs.RangeLaws.{sum_grows}
-
--- One tick's share
+use Rattle.theory.specs.Analysis.Work.{Passes}
 
 pub runs_self : (i : ℕ) → runs i (busy i) ≡ 1
 runs_self i = rw (eq-eqb i i refl)
@@ -47,13 +47,6 @@ done_busy run i t e = omega (arith, done_step run i t, ap (runs i) e, runs_self 
 pub done_grows : (run : Run) (i t u : ℕ) → t ≤ u → done run i t ≤ done run i u
 unfolding done
 done_grows run i = sum_grows (λ x. runs i (run x))
-
--- A count that a task passes by f, it has at a tick before f in which it runs.
-pub record Passes (run : Run) (i x f : ℕ) : Type 0 where
-  pub at : ℕ
-  pub before : at < f
-  pub runs_then : run at ≡ busy i
-  pub counts : done run i at ≡ x
 
 pub done_passes : (run : Run) (i x f : ℕ) → x < done run i f → Passes run i x f
 unfolding done sum

@@ -6,19 +6,18 @@ use Rattle.theory.specs.declared.Task.{Task}
 use Rattle.theory.specs.Model.Schedule.{period, release, Demands, Within, Run, Schedule}
 use Rattle.theory.specs.Model.Responses.{full, full_budget, response, hyperperiod, task_response, Accepted}
 use Rattle.theory.proofs.Analysis.Repetition.{response_again, response_greatest}
-use Rattle.theory.specs.Model.Chain.{Chain, outranked, delay, sampling, sampling_release, bound, GreatestOf, PathEnds, Rising}
+use Rattle.theory.specs.Model.Chain.{Chain, outranked, delay, sampling, sampling_release, bound, PathEnds, Rising}
 use Rattle.theory.specs.Model.Readings.{Carries, Arrives}
 use Rattle.theory.proofs.Analysis.ReadingLaws.{carries_order, path_first, path_carries}
 use Rattle.theory.proofs.Analysis.WalkLaws.{walk_worst_of_all, walk_worst_bound}
 use Rattle.theory.proofs.Analysis.Hyperperiod.{hyperperiod_cycle}
 use Rattle.theory.proofs.Analysis.Paths.{path_unique, path_within, path_exists, path_exact}
-use Rattle.theory.proofs.Results.Examples.{quartet, quartet_chain}
+use Rattle.theory.specs.Results.Examples.{quartet}
+use Rattle.theory.proofs.Results.Examples.{quartet_chain}
 use Rattle.theory.proofs.Results.Quartet.{quartet_run, quartet_path}
-use Rattle.theory.proofs.Results.Overtaken.{pair, pair_path, pair_carries, pair_lost}
-
--- A figure is the greatest delay of the chain over all releases of its first task, and a release the smallest that gives it; it is before H.
-abbrev pub GreatestDelay : List Task → ℕ → List ℕ → ℕ → ℕ → Type 0
-GreatestDelay ts p rest = GreatestOf (period ts p) (hyperperiod ts) (delay ts (response ts) p rest)
+use Rattle.theory.specs.Results.Overtaken.{pair}
+use Rattle.theory.proofs.Results.Overtaken.{pair_path, pair_carries, pair_lost}
+use Rattle.theory.specs.Results.Demand3.{GreatestDelay}
 
 figure_greatest : {ts : List Task} → Accepted ts → (p : ℕ) (rest : List ℕ) → Chain ts p rest
     → GreatestDelay ts p rest (sampling ts (response ts) p rest) (sampling_release ts (response ts) p rest)

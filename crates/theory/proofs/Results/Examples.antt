@@ -4,28 +4,14 @@ use Rattle.std.proofs.Common.{◌∙◌, arith, ltb→lt, eqb→eq}
 use Rattle.std.proofs.Math.Bool.{decide}
 use Rattle.theory.specs.declared.Task.{Task}
 use Rattle.arith.specs.Ranges.{sum, maximum}
-use Rattle.theory.specs.Model.Responses.{LateTask, response, task_response, hyperperiod, jobs, all_jobs, idle_ticks, Accepted}
+use Rattle.theory.specs.Model.Responses.{LateTask, hyperperiod, jobs, all_jobs, idle_ticks, Accepted}
 use Rattle.theory.proofs.Analysis.Idle.{idle_adds_up}
-use Rattle.theory.proofs.Analysis.Evaluation.{delay_clearing, chain?, sampling_clearing, sampling_release_clearing, bound_clearing, decided, proper?, clears?, clears_accepted, Row, row?, cleared_row}
+use Rattle.theory.specs.Analysis.Evaluation.{Row}
+use Rattle.theory.proofs.Analysis.Evaluation.{delay_clearing, chain?, sampling_clearing, sampling_release_clearing, bound_clearing, decided, proper?, clears?, clears_accepted, row?, cleared_row}
 use Rattle.theory.specs.Model.Chain.{delay, sampling, sampling_release, bound}
-use Rattle.theory.proofs.Analysis.Clearing.{clearing, clearing_late}
-
--- A task (T, C, rank).
-abbrev pub task : ℕ → ℕ → ℕ → Task
-task period budget rank = record { period = period; budget = budget; rank = rank }
-
-abbrev pub trio : List Task
-trio = task 8 1 1 ∷ task 2 1 3 ∷ task 4 1 2 ∷ []
-
-abbrev pub radio : List Task
-radio = task 20 5 1 ∷ task 6 1 3 ∷ task 12 3 2 ∷ []
-
-abbrev pub quartet : List Task
-quartet = task 6 1 4 ∷ task 6 1 3 ∷ task 3 1 2 ∷ task 6 1 1 ∷ []
-
--- The seventh sheet, which is refused: its first task takes every other tick, so the second is not done with its 2 ticks by 3.
-abbrev pub crowded : List Task
-crowded = task 2 1 2 ∷ task 3 2 1 ∷ []
+use Rattle.theory.specs.Analysis.Clearing.{clearing}
+use Rattle.theory.proofs.Analysis.Clearing.{clearing_late}
+use Rattle.theory.specs.Results.Examples.{trio, radio, quartet, crowded, Figures, radio_delay}
 
 -- Accepted, or late
 
@@ -84,11 +70,6 @@ quartet_rows =
 
 -- The sampling figure, its release and the quick bound of a chain
 
-pub record Figures (ts : List Task) (p : ℕ) (rest : List ℕ) (figure release quick : ℕ) : Type 0 where
-  pub is_sampling : sampling ts (response ts) p rest ≡ figure
-  pub is_release : sampling_release ts (response ts) p rest ≡ release
-  pub is_bound : bound ts (task_response ts) p rest ≡ quick
-
 figures : {ts : List Task} → Accepted ts → (p : ℕ) (rest : List ℕ) → T (decide (chain? ts p rest)) → {figure release quick : ℕ}
     → sampling ts (clearing ts) p rest ≡ figure → sampling_release ts (clearing ts) p rest ≡ release
     → bound ts (λ i. maximum (jobs ts i) (clearing ts i)) p rest ≡ quick
@@ -114,10 +95,6 @@ radio_short_chain = figures radio_accepted 0 (1 ∷ []) tt refl refl refl
 pub quartet_chain : Figures quartet 2 (3 ∷ []) 8 3 8
 unfolding decide chain? sampling sampling_release bound clearing
 quartet_chain = figures quartet_accepted 2 (3 ∷ []) tt refl refl refl
-
--- "Delays 16 at 0, 20 at 20, 12 at 40."
-abbrev pub radio_delay : ℕ → ℕ
-radio_delay = delay radio (response radio) 0 (1 ∷ 2 ∷ [])
 
 pub radio_delays : (radio_delay 0 ≡ 16) × (radio_delay 20 ≡ 20) × (radio_delay 40 ≡ 12)
 unfolding decide chain? delay clearing

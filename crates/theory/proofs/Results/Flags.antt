@@ -13,7 +13,8 @@ use Rattle.theory.proofs.Analysis.NeverLater.{job_starts}
 use Rattle.theory.proofs.Analysis.ChainLaws.{chain_head}
 use Rattle.theory.proofs.Analysis.FlagLaws.{flag_later, wait_most, flag_taken}
 use Rattle.theory.proofs.Results.Demand3.{no_schedule_exceeds, path_arrives, sampling_within_bound}
-use Rattle.theory.proofs.Results.Examples.{trio, radio, trio_chain, radio_chain}
+use Rattle.theory.specs.Results.Examples.{trio, radio}
+use Rattle.theory.proofs.Results.Examples.{trio_chain, radio_chain}
 
 -- 1. No flag exceeds the worst. For every accepted sheet, all demands of 1 to C, every run that is a schedule for them and every tick e: a job
 -- takes the flag raised then, the path from it ends no later than T − 1 and the sampling figure after e, and the reading that arrives there

@@ -1,25 +1,17 @@
 -- Lower ranks do not reach a chain (document 02, P10): its figures do not know the tasks that are ranked below all of its own.
-use Rattle.std.specs.Prelude.{◌≡◌, List, ℕ, ◌<◌, ltb, length}
+use Rattle.std.specs.Prelude.{◌≡◌, List, ℕ, ltb}
 use Rattle.std.proofs.Common.{ap, ap₂, subst₂, le_refl}
 use Rattle.std.proofs.Math.Path.{fun_ext}
 use Rattle.theory.specs.declared.Task.{Task}
 use Rattle.theory.specs.Model.Schedule.{period, rank}
 use Rattle.theory.specs.Model.Responses.{response, hyperperiod, task_response, Accepted}
 use Rattle.theory.specs.Model.Chain.{Chain, outranked, delay, sampling, sampling_release, bound, GreatestOf}
-use Rattle.theory.proofs.Analysis.WalkLaws.{Along, Alike, along_first, greatest_unique, walk_delay_same, walk_bound_same}
-use Rattle.theory.proofs.Analysis.LowerLaws.{From, SameFrom, same_task, response_same, task_response_same}
+use Rattle.theory.specs.Analysis.WalkLaws.{Along, Alike}
+use Rattle.theory.proofs.Analysis.WalkLaws.{along_first, greatest_unique, walk_delay_same, walk_bound_same}
+use Rattle.theory.specs.Analysis.LowerLaws.{From}
+use Rattle.theory.proofs.Analysis.LowerLaws.{same_task, response_same, task_response_same}
 use Rattle.theory.proofs.Results.Demand3.{sampling_of_all}
-
--- A chain's figures are the same on two lists of tasks.
-pub record SameFigures (ts us : List Task) (p : ℕ) (rest : List ℕ) : Type 0 where
-  pub same_sampling : sampling ts (response ts) p rest ≡ sampling us (response us) p rest
-  pub same_release : sampling_release ts (response ts) p rest ≡ sampling_release us (response us) p rest
-  pub same_bound : bound ts (task_response ts) p rest ≡ bound us (task_response us) p rest
-
--- Task i is apart from what differs on two lists: whatever either has at its rank or above it, both have.
-pub record Apart (ts us : List Task) (i : ℕ) : Type 0 where
-  pub known : i < length ts
-  pub same : SameFrom (rank ts i) ts us
+use Rattle.theory.specs.Results.LowerRanks.{SameFigures, Apart}
 
 from_own : {ts us : List Task} {i : ℕ} → Apart ts us i → From (rank ts i) ts i
 from_own apart = record { known = apart.known; ranked = le_refl _ }

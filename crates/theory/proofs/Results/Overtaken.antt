@@ -1,9 +1,8 @@
 -- A path that newer readings overtake: tasks (2,1,1) and (10,1,2), chain 0 1. The write of job 0 at 2 is overwritten at 3, 5, 7 and 9; its path
 -- goes to the job that starts at 10, which reads what job 4, released at 8, wrote at 9.
-use Rattle.std.specs.Prelude.{◌≡◌, refl, List, [], ◌∷◌, ℕ, suc, ◌+◌, ◌*◌, ◌<◌, ◌≤◌}
+use Rattle.std.specs.Prelude.{◌≡◌, refl, [], ◌∷◌, ℕ, suc, ◌+◌, ◌*◌, ◌<◌, ◌≤◌}
 use Rattle.std.proofs.Common.{ap, ◌∙◌, subst, le_refl, pos_of_ne-zero, arith}
 use Rattle.std.proofs.Math.Bool.{decide}
-use Rattle.theory.specs.declared.Task.{Task}
 use Rattle.theory.specs.Model.Schedule.{release, busy, Starts, Finishes}
 use Rattle.theory.specs.Model.Responses.{full, full_budget, Accepted}
 use Rattle.theory.specs.Model.Chain.{Chain, HandOver, PathEnds}
@@ -12,15 +11,13 @@ use Rattle.theory.proofs.Analysis.Work.{done_busy, need_step}
 use Rattle.theory.proofs.Analysis.Finish.{start_unique, finish_later, finish_released}
 use Rattle.theory.proofs.Analysis.Existence.{full_schedule}
 use Rattle.theory.proofs.Analysis.ResponseLaws.{response_finishes}
-use Rattle.theory.proofs.Analysis.Clearing.{clearing, response_clearing}
+use Rattle.theory.specs.Analysis.Clearing.{clearing}
+use Rattle.theory.proofs.Analysis.Clearing.{response_clearing}
 use Rattle.theory.proofs.Analysis.Repetition.{never_late}
 use Rattle.theory.proofs.Analysis.NeverLater.{full_within}
 use Rattle.theory.proofs.Analysis.ReadingLaws.{carries_order, path_first}
 use Rattle.theory.proofs.Analysis.Evaluation.{decided, proper?, clears?, clears_accepted}
-use Rattle.theory.proofs.Results.Examples.{task}
-
-abbrev pub pair : List Task
-pair = task 2 1 1 ∷ task 10 1 2 ∷ []
+use Rattle.theory.specs.Results.Overtaken.{pair}
 
 pub pair_accepted : Accepted pair
 unfolding decide proper? clears?

@@ -14,7 +14,8 @@ use Rattle.theory.proofs.Analysis.Existence.{schedule_unique, schedule_same}
 use Rattle.theory.proofs.Analysis.ResponseLaws.{response_finishes}
 use Rattle.theory.proofs.Analysis.Repetition.{never_late, response_jobs}
 use Rattle.theory.proofs.Analysis.Evaluation.{decided, all?}
-use Rattle.theory.proofs.Results.Examples.{quartet, quartet_accepted, quartet_rows}
+use Rattle.theory.specs.Results.Examples.{quartet}
+use Rattle.theory.proofs.Results.Examples.{quartet_accepted, quartet_rows}
 use Rattle.theory.specs.Model.Chain.{HandOver, PathEnds}
 
 -- The responses of the chain's two tasks: 3 and 1 in turn, and 5.

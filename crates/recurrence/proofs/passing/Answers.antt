@@ -16,8 +16,8 @@ loop-i-preserved c =
     let known : l.i < c.args.s.count = omega arith in (
       omega arith,
       elim c.if-t-responses.branch [
-        | then-t-responses+then-above-rank w ↦ rw (w.above-is, w.found-is) (found_more c.args.s c.requires.sound c.requires.responses_value known l.invariant.1 w.if-t-responses.true w.if-above-rank.true)
-        | then-t-responses+else-above-rank w ↦ rw (w.above-is, w.found-is) (found_lower c.args.s c.requires.sound c.requires.responses_value known l.invariant.1 w.if-t-responses.true w.if-above-rank.false)
+        | then-t-responses+then-above-rank w ↦ rw (w.above-is, w.found-is) (found_more c.args.s c.requires.sound c.requires.responses_value known l.invariant.1 w.if-t-responses.true (omega (arith, w)))
+        | then-t-responses+else-above-rank w ↦ rw (w.above-is, w.found-is) (found_lower c.args.s c.requires.sound c.requires.responses_value known l.invariant.1 w.if-t-responses.true (omega (arith, w)))
         | else-t-responses w ↦ rw (w.above-is, w.found-is) (found_same c.args.s c.requires.sound c.requires.responses_value known l.invariant.1 w.if-t-responses.false)
       ],
     )

@@ -25,9 +25,10 @@ returns-then-not-was c = refused_end _ _ 25 _ c.refused.ensures (stamp_none _ _ 
 
 pub returns-then-ticks-ge2147483648 : goal.returns-then-ticks-ge2147483648
 returns-then-ticks-ge2147483648 c =
-    refused_end _ _ 26 _ c.refused-then-ticks-ge2147483648.ensures (stamp_long _ _ (not-false _ c.if-not-was.false) (rw (elapsed_is _ _ _ (omega arith) (omega arith) c.ticks_between-ticks.ensures) at c.if-ticks-ge2147483648.true))
+    let is = elapsed_is _ _ _ (omega arith) (omega arith) c.ticks_between-ticks.ensures in
+    refused_end _ _ 26 _ c.refused-then-ticks-ge2147483648.ensures (stamp_long _ _ (not-false _ c.if-not-was.false) (omega (arith, is)))
 
 pub returns : goal.returns
 returns c =
     let is = elapsed_is _ _ _ (omega arith) (omega arith) c.ticks_between-ticks.ensures in
-    taken_end _ _ is c.greater-longest.ensures c.counted-count.ensures (not-false _ c.if-not-was.false) (rw is at c.if-ticks-ge2147483648.false)
+    taken_end _ _ is c.greater-longest.ensures c.counted-count.ensures (not-false _ c.if-not-was.false) (omega (arith, is))

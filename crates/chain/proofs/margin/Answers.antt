@@ -17,7 +17,7 @@ pub returns-then-limit-gt-MOST_LIMIT : goal.returns-then-limit-gt-MOST_LIMIT
 returns-then-limit-gt-MOST_LIMIT c =
     let a = c.args in
     let r = c.over_limit.result in
-    let e = margin_over a.s a.number (length a.table.now) a.limit c.if-limit-gt-MOST_LIMIT.true in
+    let e = margin_over a.s a.number (length a.table.now) a.limit (omega arith) in
     let o = sym c.over_limit.ensures in
     (sym (e ∙ o), over_untouched a.s a.table.now r a.number o ∙ ap (λ x. table_after x (tasks_of a.s) a.table.now) (sym e))
 
@@ -25,7 +25,7 @@ pub returns-in_default : goal.returns-in_default
 returns-in_default c =
     let a = c.args in
     let is = c.in_default.is in
-    rw (margin_asked a.s a.number (length a.table.now) a.limit c.if-limit-gt-MOST_LIMIT.false)
+    rw (margin_asked a.s a.number (length a.table.now) a.limit (omega arith))
     (answers_no a.s a.table.now _ c.figures_refusal.result
     (sym c.figures-filled.ensures.0.0 ∙ ap told_figures is ∙ ap refusal (sym (c.figures_refusal.ensures ∙ ap figures_refusal is)))
     c.figures-filled.ensures.0.1)
@@ -35,12 +35,12 @@ less_of-requires c =
     let a = c.args in
     let known : figures_of a.s a.number (length a.table.now) ≡ given c.in-Of.summary = sym c.figures-filled.ensures.0.0 ∙ ap told_figures c.in-Of.is in
     let g = figures_given a.s a.number (length a.table.now) known in
-    (c.if-limit-gt-MOST_LIMIT.false, omega (arith, g.worst_is, ap (λ (c : Figure). c.ticks) g.sampling_is, worst_most g.taken))
+    (omega arith, omega (arith, g.worst_is, ap (λ (c : Figure). c.ticks) g.sampling_is, worst_most g.taken))
 
 pub returns : goal.returns
 returns c =
     let a = c.args in
     let known : figures_of a.s a.number (length a.table.now) ≡ given c.in-Of.summary = sym c.figures-filled.ensures.0.0 ∙ ap told_figures c.in-Of.is in
     let read = to_z-of_z w32 c.less_of.result (record { sfits = c.less_of.type_inv }) in
-    rw (margin_asked a.s a.number (length a.table.now) a.limit c.if-limit-gt-MOST_LIMIT.false, read)
+    rw (margin_asked a.s a.number (length a.table.now) a.limit (omega arith), read)
     (answers_given a.s a.table.now _ known (ap given (sym c.less_of.ensures)) c.figures-filled.ensures.0.1)

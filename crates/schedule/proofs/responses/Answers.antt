@@ -21,7 +21,7 @@ returns-in_default c =
 pub returns-then-table-jobs : goal.returns-then-table-jobs
 returns-then-table-jobs c =
     let fits : sizes_of c.args.s ≡ given c.in-Of.size = sym c.sizes-z.ensures ∙ ap told_size c.in-Of.is in
-    answers_small _ c.args.table.now fits c.if-table-jobs.true
+    answers_small _ c.args.table.now fits (omega arith)
 
 pub fill_rows-found-requires : goal.fill_rows-found-requires
 fill_rows-found-requires c =
@@ -44,7 +44,7 @@ returns-in_default-found c =
     let r = c.fill_rows-found in
     let is = c.in_default-found.is in
     rw (c.clear.ensures, c.found_refusal.ensures ∙ ap late_of is)
-    (answers_late c.args.s c.args.table.now fits sound c.if-table-jobs.false
+    (answers_late c.args.s c.args.table.now fits sound (omega arith)
     (subst (Filled (tasks_of c.args.s) c.args.s.count (all_jobs (tasks_of c.args.s)) c.args.table.now r.new.table) is r.ensures))
 
 pub shape_of-table : goal.shape_of-table
@@ -55,5 +55,5 @@ returns c =
     let fits : sizes_of c.args.s ≡ given c.in-Of.size = sym c.sizes-z.ensures ∙ ap told_size c.in-Of.is in
     let sound : Sound c.args.s = judged_sound c.args.s (sizes_given c.args.s fits).judged_fine in
     let r = c.fill_rows-found in
-    answers_full c.args.s c.args.table.now fits sound c.if-table-jobs.false
+    answers_full c.args.s c.args.table.now fits sound (omega arith)
     (subst (Filled (tasks_of c.args.s) c.args.s.count (all_jobs (tasks_of c.args.s)) c.args.table.now r.new.table) c.in-Lowest.is r.ensures)

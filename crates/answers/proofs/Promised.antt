@@ -1,7 +1,11 @@
--- The contract of the call is its promise: what a caller learns of it is the predicate of `Promises`, no more and no less.
+-- The contract of each call is its promise: what a caller learns of it is the predicate of `Promises`, no more and no less.
 use mathlib.Core.Path.{◌≡◌, refl}
-use Rattle.answers.specs.Promises.{RefusalOfPromise}
-use Rattle.answers.proofs.refusal_of.Reads as refusal_of
+use Rattle.answers.specs.Promises.{NumberPromise, ValuePromise}
+use Rattle.answers.proofs.Refusal.number.Reads as number
+use Rattle.answers.proofs.Refusal.value.Reads as value
 
-refusal_of_promised : refusal_of.Learnt ≡ (λ κs a r e. RefusalOfPromise a.0 r)
-refusal_of_promised = refl
+number_promised : number.Learnt ≡ (λ κs a r e. NumberPromise a.0 r)
+number_promised = refl
+
+value_promised : value.Learnt ≡ (λ κs a r e. ValuePromise a.0 r)
+value_promised = refl

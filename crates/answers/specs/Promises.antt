@@ -1,8 +1,15 @@
--- What the call promises.
-use Rattle.std.specs.Prelude.{◌≡◌}
+-- What the calls promise.
+use Rattle.std.specs.Prelude.{◌≡◌, ℕ, List, [], ◌∷◌, Option, Some, None}
 use Rattle.answers.specs.declared.Refusal.{Refusal}
-use Rattle.answers.specs.declared.Verdict.{Verdict}
-use Rattle.answers.specs.Answers.{refusal_in}
+use Rattle.answers.specs.Answers.{number_in, values_in}
 
-abbrev pub RefusalOfPromise : Verdict → Refusal → Type 0
-RefusalOfPromise v r = r ≡ refusal_in v
+abbrev pub NumberPromise : Refusal → ℕ → Type 0
+NumberPromise r number = number ≡ number_in r
+
+-- the value, if there is one
+abbrev pub list_of : Option ℕ → List ℕ
+list_of None = []
+list_of (Some value) = value ∷ []
+
+abbrev pub ValuePromise : Refusal → Option ℕ → Type 0
+ValuePromise r value = list_of value ≡ values_in r

@@ -4,7 +4,7 @@
 #![tactic(auto)]
 
 // A task of a timing sheet: released every `period` ticks, it runs for 1 to `budget` of them; a greater rank goes first.
-#[derive(Clone, Copy)]
+#[derive(Clone, Copy, Default, PartialEq, Eq)]
 pub struct Task {
     pub period: u32,
     pub budget: u32,

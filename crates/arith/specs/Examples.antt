@@ -1,6 +1,5 @@
 -- The definitions, evaluated: at 0, and at numbers of document 01's sheets.
-use Rattle.std.specs.Prelude.{◌≡◌, refl}
-use Rattle.std.proofs.Math.Option.{some, none}
+use Rattle.std.specs.Prelude.{◌≡◌, refl, Some, None}
 use Rattle.arith.specs.Whole.{gcd, lcm, up}
 use Rattle.arith.specs.Limit.{within}
 
@@ -14,7 +13,7 @@ unfolding lcm
 hyperperiods = (refl, refl, refl, refl, refl)
 
 -- Sheet 8: one half is taken, the other is over the limit.
-halves_of_sheet_8 : (gcd 1000 1001 ≡ 1) × (within 1000000 (lcm 1000 999) ≡ some 999000) × (within 1000000 (lcm 1000 1001) ≡ none)
+halves_of_sheet_8 : (gcd 1000 1001 ≡ 1) × (within 1000000 (lcm 1000 999) ≡ Some 999000) × (within 1000000 (lcm 1000 1001) ≡ None)
 unfolding gcd lcm within
 halves_of_sheet_8 = (refl, refl, refl)
 

@@ -1,18 +1,17 @@
 -- What each call answers: one predicate a call, of its arguments and its answer. The contract is the predicate, and `Unique` says
 -- that it allows one answer.
-use Rattle.std.specs.Prelude.{◌≡◌, List, ℕ, ℤ, nat_abs, length, get_or}
-use Rattle.arith.specs.declared.Multiple.{Multiple}
+use Rattle.std.specs.Prelude.{◌≡◌, List, ℕ, ℤ, Option, nat_abs, length, get_or}
 use Rattle.arith.specs.Whole.{gcd, lcm, up}
-use Rattle.arith.specs.Limit.{told, within}
+use Rattle.arith.specs.Limit.{within}
 use Rattle.arith.specs.Ranges.{maximum}
 
 -- The greatest common divisor of a and b; with 0 the other number.
 abbrev pub GcdPromise : ℕ → ℕ → ℕ → Type 0
 GcdPromise a b r = r ≡ gcd a b
 
--- The least common multiple of a and b where it is at most the limit, or that it is over.
-abbrev pub LcmPromise : ℕ → ℕ → ℕ → Multiple → Type 0
-LcmPromise a b limit r = told r ≡ within limit (lcm a b)
+-- The least common multiple of a and b where it is at most the limit, or none.
+abbrev pub LcmPromise : ℕ → ℕ → ℕ → Option ℕ → Type 0
+LcmPromise a b limit r = r ≡ within limit (lcm a b)
 
 -- The least multiple of the period that is at least x; 0 for a period of 0.
 abbrev pub UpPromise : ℕ → ℕ → ℕ → Type 0

@@ -19,28 +19,15 @@ pub fn gcd(a: u32, b: u32) -> u32
     divisor
 }
 
-// A least common multiple, or that it is over the limit asked for.
-#[derive(Clone, Copy)]
-pub enum Multiple {
-    Is(u32),
-    Over,
-}
-
 // The least common multiple of a and b where it is at most the limit; with 0 it is 0.
-pub fn lcm(a: u32, b: u32, limit: u32) -> Multiple
+pub fn lcm(a: u32, b: u32, limit: u32) -> Option<u32>
     ensures { LcmPromise a b limit result }
 {
     if a == 0 {
-        return Multiple::Is(0);
+        return Some(0);
     }
-    let divisor = gcd(a, b);
-    let multiple = (a / divisor) as u64 * b as u64;
-    if multiple <= limit as u64 {
-        let fitting = multiple as u32;
-        Multiple::Is(fitting)
-    } else {
-        Multiple::Over
-    }
+    let multiple = (a / gcd(a, b)).checked_mul(b)?;
+    (multiple <= limit).then_some(multiple)
 }
 
 // The least multiple of the period that is at least x; the only multiple of 0 is 0.
@@ -50,8 +37,8 @@ pub fn up(period: u32, x: u32) -> u64
     if period == 0 {
         return 0;
     }
-    let step = period as u64;
-    (x as u64 + (step - 1)) / step * step
+    let step = u64::from(period);
+    u64::from(x).next_multiple_of(step)
 }
 
 // The greatest entry of a row, 0 of none.
@@ -59,12 +46,8 @@ pub fn greatest(row: &[u32]) -> u32
     ensures { GreatestPromise row.now result }
 {
     let mut most = 0u32;
-    let mut k = 0usize;
-    while k < row.len() {
-        if most < row[k] {
-            most = row[k];
-        }
-        k += 1;
+    for &entry in row {
+        most = most.max(entry);
     }
     most
 }
@@ -73,9 +56,5 @@ pub fn greatest(row: &[u32]) -> u32
 pub fn magnitude(z: i32) -> u64
     ensures { MagnitudePromise z result }
 {
-    let ticks = z as i64;
-    if ticks < 0 {
-        return (0 - ticks) as u64;
-    }
-    ticks as u64
+    u64::from(z.unsigned_abs())
 }

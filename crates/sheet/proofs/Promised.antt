@@ -1,10 +1,9 @@
 -- The contract of each call is its promise: what a caller learns of it is the predicate of `Promises`, no more and no less.
 use mathlib.Core.Path.{◌≡◌, refl}
-use Rattle.sheet.specs.Promises.{JudgePromise, ReadPromise, ToSecondPromise, ToFirstPromise, WritePromise, WrittenRefusalPromise, ChainCountPromise, NumberedPromise}
+use Rattle.sheet.specs.Promises.{JudgePromise, ReadPromise, ToSecondPromise, ToFirstPromise, WritePromise, ChainCountPromise, NumberedPromise}
 use Rattle.sheet.proofs.judge.Reads as judge
 use Rattle.sheet.proofs.read.Reads as read
 use Rattle.sheet.proofs.write.Reads as write
-use Rattle.sheet.proofs.written_refusal.Reads as written_refusal
 use Rattle.sheet.proofs.to_second.Reads as to_second
 use Rattle.sheet.proofs.to_first.Reads as to_first
 use Rattle.sheet.proofs.chain_count.Reads as chain_count
@@ -18,9 +17,6 @@ read_promised = refl
 
 write_promised : write.Learnt ≡ (λ κs a r e. WritePromise a.0 a.1.0.now r e.1.0.now)
 write_promised = refl
-
-written_refusal_promised : written_refusal.Learnt ≡ (λ κs a r e. WrittenRefusalPromise a.0 r)
-written_refusal_promised = refl
 
 to_second_promised : to_second.Learnt ≡ (λ κs a r e. ToSecondPromise a.0 r)
 to_second_promised = refl

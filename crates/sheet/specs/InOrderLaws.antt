@@ -1,20 +1,32 @@
 -- Laws of judging fields in order: what is fine, what is left, and what room does.
-use Rattle.std.specs.Prelude.{◌≡◌, ℕ, ◌+◌, ◌≤◌, ◌<◌, ltb}
+use Rattle.std.specs.Prelude.{◌≡◌, Bool, true, false, ℕ, ◌+◌, ◌≤◌, ◌<◌, ltb}
 use Rattle.std.proofs.Math.Path.{refl, ap₂}
 use Rattle.std.proofs.Common.{ap, ltb-false, lt-ltb, le-ltb}
 use mathlib.Core.List.{List, [], ◌∷◌}
 use native.Mathlib.Omega.{arith}
 use Rattle.sheet.specs.declared.Field.{Field}
-use Rattle.answers.specs.Answers.{given, refused, Judgement, fine, when, also}
+use Rattle.answers.specs.declared.Refusal.{Refusal}
+use Rattle.answers.specs.Answers.{given, refused, Judgement, fine, when, also, refusal}
 use Rattle.answers.specs.AnswerLaws.{refused_given, when_fine, also_given}
-use Rattle.sheet.specs.Fields.{Values, kind_of, width, widths, judged, with_offset, in_order}
+use Rattle.sheet.specs.Fields.{Values, kind_of, width, widths, judged, offset, with_offset, in_order}
 use Rattle.sheet.specs.Calls.{judged_on, judged_in, judged_whole}
+use Rattle.sheet.specs.Order.{refused_if}
 use Rattle.sheet.specs.EachLaws.{All}
 
 -- An offset changes nothing where there is no refusal.
 pub with_offset_fine : (at : ℕ) (j : Judgement) → with_offset at j ≡ fine → j ≡ fine
 with_offset_fine at (given u) e = refl
 with_offset_fine at (refused number values) e = refused_given e
+
+-- ---- the code's refusals, with the bit and without
+
+pub refused_when : (b : Bool) (r : Refusal) (number : ℕ) → ◌≡◌ {A = Judgement} (refusal r) (refused number []) → refused_if b r ≡ when b number
+refused_when true r number e = e
+refused_when false r number e = refl
+
+pub refused_offset : (b : Bool) (r : Refusal) (number at : ℕ) → ◌≡◌ {A = Judgement} (refusal r) (refused number (offset number at)) → refused_if b r ≡ with_offset at (when b number)
+refused_offset true r number at e = e
+refused_offset false r number at e = refl
 
 -- ---- fields in order
 

@@ -13,7 +13,6 @@ pub mod Order
 pub mod FieldLaws
 pub mod EachLaws
 pub mod PlaceLaws
-pub mod AnswerLaws
 pub mod InOrderLaws
 pub mod NumberLaws
 pub mod FormatLaws

@@ -1,12 +1,13 @@
 -- How the code goes through the fields and reads them, in names that no promise of a call needs.
-use Rattle.std.specs.Prelude.{Bool, cond, List, ℕ, ◌+◌, ◌*◌, ltb, leb, eqb, get_or}
+use Rattle.std.specs.Prelude.{Bool, true, false, cond, List, ℕ, ◌+◌, ◌*◌, ltb, leb, eqb, get_or}
 use Rattle.bits.specs.Bits.{number}
 use Rattle.theory.specs.declared.Task.{Task}
 use Rattle.sheet.specs.declared.Chain.{Chain}
 use Rattle.sheet.specs.declared.Sheet.{Sheet}
 use Rattle.sheet.specs.declared.Field.{Field}
 use Rattle.sheet.specs.declared.Field.TheVariants.{Mark, Edition, Count, Period, Budget, Rank, Chains, Limit, Length, Entry}
-use Rattle.answers.specs.Answers.{Judgement, when, also}
+use Rattle.answers.specs.declared.Refusal.{Refusal}
+use Rattle.answers.specs.Answers.{Judgement, fine, when, also, refusal}
 use Rattle.sheet.specs.Fields.{among, Values, Kind, old, new, tasks, entries, width, judged}
 use Rattle.sheet.specs.Calls.{places, sheet_by, extra, task_begin, tasks_in, spelt_by}
 
@@ -97,6 +98,11 @@ chain_bits kind = extra kind (width (Limit 0)) + width (Length 0)
 -- The value at a place of a list, 0 past its end.
 abbrev pub nth : List ℕ → ℕ → ℕ
 nth values i = get_or values i 0
+
+-- "given when", as the code's own refusal
+abbrev pub refused_if : Bool → Refusal → Judgement
+refused_if true r = refusal r
+refused_if false r = fine
 
 -- What is found of entry i of a chain with these entries, on a sheet of n tasks.
 abbrev pub entry_judged : ℕ → (ℕ → ℕ) → ℕ → Judgement

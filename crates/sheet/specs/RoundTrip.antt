@@ -1,20 +1,15 @@
 -- Writing and reading a sheet are inverse, from call to call.
-use Rattle.std.specs.Prelude.{◌≡◌, refl, ◌↔◌, List, ◌++◌, ℕ, ◌≤◌, ltb, length, take, drop}
-use Rattle.std.proofs.Common.{sym, ap, ◌∙◌, subst, arith, take_at, le-ltb}
+use Rattle.std.specs.Prelude.{◌≡◌, ◌↔◌, List, ◌++◌, ℕ, ◌≤◌, ltb, length, take, drop, Result, Ok}
+use Rattle.std.proofs.Common.{sym, ap, ◌∙◌, arith, take_at, le-ltb}
 use Rattle.bits.specs.Bits.{written, bytes_for}
 use Rattle.bits.specs.Bytes.{Bytes as AreBytes}
-use Rattle.answers.specs.declared.Verdict.TheVariants.{Fine}
-use Rattle.answers.specs.Answers.{given, fine, when, also}
-use Rattle.answers.specs.AnswerLaws.{also_given, also_fine}
+use Rattle.answers.specs.declared.Refusal.{Refusal}
+use Rattle.answers.specs.Answers.{given, fine, when, also, told}
+use Rattle.answers.specs.AnswerLaws.{also_given, told_unique}
 use Rattle.sheet.specs.declared.Sheet.{Sheet}
-use Rattle.sheet.specs.declared.Reading.{Reading}
-use Rattle.sheet.specs.declared.Written.{Written}
-use Rattle.sheet.specs.declared.Written.TheVariants.{Bytes}
 use Rattle.sheet.specs.Calls.{judge_of, packed, encoded, size_of, write_of, buffer_after, RanksFit, cleared, read_of}
 use Rattle.sheet.specs.Fields.{kind_of, fields, value}
-use Rattle.sheet.specs.Answers.{told_bytes, sheet_in}
 use Rattle.sheet.specs.Promises.{ReadPromise, WritePromise}
-use Rattle.sheet.specs.AnswerLaws.{given_fine, bytes_told}
 use Rattle.sheet.specs.EachLaws.{All, each_all}
 use Rattle.sheet.specs.SizeLaws.{least, most, size_least, size_most}
 use Rattle.sheet.specs.SoundLaws.{judged_sound}
@@ -56,27 +51,25 @@ cleared_same s e =
 -- ---- the theorems
 
 -- "Writing a sheet and reading it gives the same counts, tasks and chain", the unused places zero.
-pub write_read : (s : Sheet) (old new : List ℕ) (n : ℕ) (x : Reading) → RanksFit s → WritePromise s old (Bytes n) new → ReadPromise (take n new) x
-    → (x.verdict ≡ Fine) × (x.sheet ≡ cleared s) × Same s x.sheet
+pub write_read : (s : Sheet) (old new : List ℕ) (n : ℕ) (x : Result Sheet Refusal) → RanksFit s → WritePromise s old (Ok n) new → ReadPromise (take n new) x
+    → (x ≡ Ok (cleared s)) × Same s (cleared s)
 write_read s old new n x ranks w r =
     let f = written_fine s (length old) n (sym w.0) in
     let front : take n new ≡ encoded s =
     ap (take n) (w.1 ∙ written_encoded s old) ∙ take_at (encoded s) (drop (size_of s) old) n (length_encoded s ∙ sym f.1) in
     let e : read_of (take n new) ≡ given (cleared s) = ap read_of front ∙ encoded_read s ranks f.0 in
-    let same : x.sheet ≡ cleared s = r.1 ∙ ap sheet_in e in
-    (given_fine x.verdict x.sheet (r.0 ∙ e), same, subst (Same s) (sym same) (cleared_same s f.0))
+    (told_unique x (Ok (cleared s)) (r ∙ e), cleared_same s f.0)
 
 -- "Reading accepted bytes and writing gives the same bytes", and the rest of the buffer as it was.
-pub read_write : (bytes old new : List ℕ) (x : Reading) (w : Written) → AreBytes bytes → ReadPromise bytes x → x.verdict ≡ Fine → WritePromise x.sheet old w new
-    → length bytes ≤ length old → (w ≡ Bytes (length bytes)) × (new ≡ bytes ++ drop (length bytes) old)
-read_write bytes old new x w fit r f h room =
-    let s = x.sheet in
-    let e : read_of bytes ≡ given s = sym r.0 ∙ also_fine (given s) refl f in
+pub read_write : (bytes old new : List ℕ) (s : Sheet) (w : Result ℕ Refusal) → AreBytes bytes → ReadPromise bytes (Ok s) → WritePromise s old w new
+    → length bytes ≤ length old → (w ≡ Ok (length bytes)) × (new ≡ bytes ++ drop (length bytes) old)
+read_write bytes old new s w fit r h room =
+    let e : read_of bytes ≡ given s = sym r in
     let same : encoded s ≡ bytes = read_encoded bytes s fit e in
     let size : size_of s ≡ length bytes = sym (length_encoded s) ∙ ap length same in
-    let told : told_bytes w ≡ given (length bytes) = h.0 ∙ fine_written s (length old) (read_judged bytes s e).0 (omega (arith, size)) ∙ ap given size in (
-      bytes_told w (length bytes) told,
-      h.1 ∙ ap (λ a. buffer_after a s old) told ∙ written_encoded s old ∙ ap (λ b. b ++ drop (size_of s) old) same ∙ ap (λ k. bytes ++ drop k old) size,
+    let told_is : told w ≡ given (length bytes) = h.0 ∙ fine_written s (length old) (read_judged bytes s e).0 (omega (arith, size)) ∙ ap given size in (
+      told_unique w (Ok (length bytes)) told_is,
+      h.1 ∙ ap (λ a. buffer_after a s old) told_is ∙ written_encoded s old ∙ ap (λ b. b ++ drop (size_of s) old) same ∙ ap (λ k. bytes ++ drop k old) size,
     )
 
 -- Bytes are accepted exactly when they are the encoding of a sheet that is judged fine.

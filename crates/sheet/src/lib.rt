@@ -7,19 +7,18 @@ ghost use Rattle.std.specs.Prelude.{◌≡◌, true, cond, ◌+◌, ◌-◌, ◌
 ghost use Rattle.std.proofs.lemmas.List.Edits.{sets};
 ghost use Rattle.bits.specs.Bits.{unpack, number};
 ghost use Rattle.theory.specs.Model.Schedule.{none};
-ghost use Rattle.answers.specs.Answers.{when, told};
+ghost use Rattle.answers.specs.Answers.{told};
 ghost use Rattle.sheet.specs.Fields.{old, new, kind_of, tasks, chains, entries, fields, width, value, outside, among, judged, with_offset, in_order};
 ghost use Rattle.sheet.specs.Calls.{places, unused, packed, end_of, task_bits, chain_from, sheet_of, spelt, judged_in, first_one, tail_of};
 ghost use Rattle.sheet.specs.Conversions.{limited, stays};
-ghost use Rattle.sheet.specs.Order.{sheet_spelt, task_at, chain_spelt, begins, chain_bits, kind_by, opening, chain_opening, suite_opening, task_opening, entry_opening, next, task_in, chain_in, entry_in, nth, entry_judged, judged_by};
-ghost use Rattle.sheet.specs.Answers.{blank};
-ghost use Rattle.sheet.specs.Promises.{JudgePromise, ReadPromise, WritePromise, WrittenRefusalPromise, ToSecondPromise, ToFirstPromise, ChainCountPromise, NumberedPromise};
+ghost use Rattle.sheet.specs.Order.{refused_if, sheet_spelt, task_at, chain_spelt, begins, chain_bits, kind_by, opening, chain_opening, suite_opening, task_opening, entry_opening, next, task_in, chain_in, entry_in, nth, entry_judged, judged_by};
+ghost use Rattle.sheet.specs.Promises.{JudgePromise, ReadPromise, WritePromise, ToSecondPromise, ToFirstPromise, ChainCountPromise, NumberedPromise};
 ghost use Rattle.sheet.specs.declared.Field.TheVariants.{Mark, Rank, Limit, Length};
 
-use answers::{Refusal, Verdict};
+use answers::Refusal;
 use theory::Task;
 
-#[derive(Clone, Copy)]
+#[derive(Clone, Copy, Default, PartialEq, Eq)]
 pub struct Chain {
     pub entries: [u8; 16],
     pub length: u8,
@@ -27,25 +26,13 @@ pub struct Chain {
 }
 
 // `count` tasks and a suite of so many chains. An old sheet is edition 1: it uses chain one, and neither `suite` nor a limit.
-#[derive(Clone, Copy)]
+#[derive(Clone, Copy, Default, PartialEq, Eq)]
 pub struct Sheet {
     pub tasks: [Task; 16],
     pub chains: [Chain; 8],
     pub edition: u8,
     pub count: u8,
     pub suite: u8,
-}
-
-#[derive(Clone, Copy)]
-pub struct Reading {
-    pub verdict: Verdict,
-    pub sheet: Sheet,
-}
-
-#[derive(Clone, Copy)]
-pub enum Written {
-    Bytes(usize),
-    No(Refusal),
 }
 
 // A field of the sheet; those of a task and of a chain with their index.
@@ -339,45 +326,46 @@ fn ranks_of(s: Sheet) -> [u8; 16]
 }
 
 // The refusal of an entry, or a rank, that repeats an earlier one.
-fn fresh(number: u8, values: &[u8], i: u8) -> Verdict
-    ensures { told result ≡ when (among (nth values.now) i (nth values.now i)) number }
+fn fresh(refusal: Refusal, values: &[u8], i: u8) -> Result<(), Refusal>
+    ensures { told result ≡ refused_if (among (nth values.now) i (nth values.now i)) refusal }
 {
     let v = nth_of(values, i);
     let mut j = i;
     while 0 < j {
         j -= 1;
         if nth_of(values, j) == v {
-            return Verdict::No(Refusal::Number(number));
+            return Err(refusal);
         }
     }
-    Verdict::Fine
+    Ok(())
 }
 
 // The refusal of a value below or above its limits.
-fn ranged(number: u8, low: u32, high: u32, v: u32) -> Verdict
-    ensures { told result ≡ when (outside low high v) number }
+fn ranged(refusal: Refusal, low: u32, high: u32, v: u32) -> Result<(), Refusal>
+    ensures { told result ≡ refused_if (outside low high v) refusal }
 {
     if v < low {
-        return Verdict::No(Refusal::Number(number));
+        return Err(refusal);
     }
     if high < v {
-        return Verdict::No(Refusal::Number(number));
+        return Err(refusal);
     }
-    Verdict::Fine
+    Ok(())
 }
 
 // The refusal of an entry that is none of so many tasks, or that repeats an earlier one of its chain.
-fn judge_entry(count: u8, chain: Chain, i: u8) -> Verdict
-    ensures { told result ≡ entry_judged count (nth chain.entries) i }
+fn judge_entry(count: u8, chain: Chain, i: u8, at: u32) -> Result<(), Refusal>
+    ensures { told result ≡ with_offset at (entry_judged count (nth chain.entries) i) }
 {
     if count <= entry_of(chain, i) {
-        return Verdict::No(Refusal::Number(7));
+        return Err(Refusal::Entry(at));
     }
     let own = chain.entries;
-    fresh(8, &own, i)
+    fresh(Refusal::Repeat(at), &own, i)
 }
 
-// A field, by the sheet's counts, the field's own task and chain, and all ranks: a copy of the sheet for each would cost more than the rest.
+// A field at bit `at`, by the sheet's counts, the field's own task and chain, and all ranks: a copy of the sheet for each would cost more
+// than the rest.
 fn judge_field(
     edition: u8,
     count: u8,
@@ -386,43 +374,21 @@ fn judge_field(
     ranks: [u8; 16],
     chain: Chain,
     f: Field,
-) -> Verdict
-    ensures { told result ≡ judged_by edition count suite task ranks chain f }
+    at: u32,
+) -> Result<(), Refusal>
+    ensures { told result ≡ with_offset at (judged_by edition count suite task ranks chain f) }
 {
     match f {
-        Field::Mark => Verdict::Fine,
-        Field::Edition => ranged(16, 2, 2, wide(edition)),
-        Field::Count => ranged(2, 1, 16, wide(count)),
-        Field::Period(_) => ranged(3, 1, 100000, task.period),
-        Field::Budget(_) => ranged(4, 1, task.period, task.budget),
-        Field::Rank(i) => fresh(5, &ranks, i),
-        Field::Chains => ranged(17, 1, 8, wide(suite)),
-        Field::Limit(_) => ranged(13, 0, 4000000, chain.limit),
-        Field::Length(_) => ranged(6, 1, wide(count), wide(chain.length)),
-        Field::Entry(_, i) => judge_entry(count, chain, i),
-    }
-}
-
-// A refusal at bit `at`: a number up to 9 comes with it.
-fn refused_at(number: u8, at: u32) -> Verdict
-    ensures { told result ≡ with_offset at (when true number) }
-{
-    if number <= 9 {
-        return Verdict::No(Refusal::With(number, at));
-    }
-    Verdict::No(Refusal::Number(number))
-}
-
-// What was found of a field, a refusal with the bit at which the field begins.
-fn with_offset(v: Verdict, at: u32) -> Verdict
-    ensures { told result ≡ with_offset at (told v) }
-{
-    let Verdict::No(refusal) = v else {
-        return Verdict::Fine;
-    };
-    match refusal {
-        Refusal::Number(number) => refused_at(number, at),
-        Refusal::With(number, _) => refused_at(number, at),
+        Field::Mark => Ok(()),
+        Field::Edition => ranged(Refusal::Edition, 2, 2, wide(edition)),
+        Field::Count => ranged(Refusal::Count(at), 1, 16, wide(count)),
+        Field::Period(_) => ranged(Refusal::Period(at), 1, 100000, task.period),
+        Field::Budget(_) => ranged(Refusal::Budget(at), 1, task.period, task.budget),
+        Field::Rank(i) => fresh(Refusal::Rank(at), &ranks, i),
+        Field::Chains => ranged(Refusal::Chain, 1, 8, wide(suite)),
+        Field::Limit(_) => ranged(Refusal::Limit, 0, 4000000, chain.limit),
+        Field::Length(_) => ranged(Refusal::Length(at), 1, wide(count), wide(chain.length)),
+        Field::Entry(_, i) => judge_entry(count, chain, i, at),
     }
 }
 
@@ -460,7 +426,7 @@ fn end_of(s: Sheet) -> u32
 }
 
 // The fields in order, in so many bytes.
-fn judge_fields(s: Sheet, len: usize) -> Verdict
+fn judge_fields(s: Sheet, len: usize) -> Result<(), Refusal>
     ensures { told result ≡ in_order (judged_in (len * 8) (value s)) 0 (fields (value s)) }
 {
     let tasks = tasks_of(s);
@@ -471,25 +437,21 @@ fn judge_fields(s: Sheet, len: usize) -> Verdict
     while at < end {
         let next = at + width_of(f);
         if len < ((next + 7) / 8) as usize {
-            return Verdict::No(Refusal::With(1, at));
+            return Err(Refusal::Cut(at));
         }
         let i = task_in(f);
         let c = chain_in(f);
         let task = s.tasks[i];
         let chain = s.chains[c];
-        let found = judge_field(s.edition, s.count, s.suite, task, ranks, chain, f);
-        let v = with_offset(found, at);
-        let Verdict::Fine = v else {
-            return v;
-        };
+        judge_field(s.edition, s.count, s.suite, task, ranks, chain, f, at)?;
         f = next_of(s.edition, tasks, taken(chain.length, 16), f);
         at = next;
     }
-    Verdict::Fine
+    Ok(())
 }
 
 // A sheet in memory, judged in the order of its fields.
-pub fn judge(s: Sheet) -> Verdict
+pub fn judge(s: Sheet) -> Result<(), Refusal>
     ensures { JudgePromise s result }
 {
     judge_fields(s, 178)
@@ -675,7 +637,7 @@ fn first_one(bytes: &[u8], at: u32, end: u32) -> u32
 }
 
 // What follows the last field.
-fn judge_tail(bytes: &[u8], end: u32) -> Verdict
+fn judge_tail(bytes: &[u8], end: u32) -> Result<(), Refusal>
     requires { end ≤ 65535 }
     ensures { told result ≡ tail_of bytes.now end }
 {
@@ -683,82 +645,39 @@ fn judge_tail(bytes: &[u8], end: u32) -> Verdict
     let surplus = size * 8;
     let wrong = first_one(bytes, end, surplus);
     if wrong < surplus {
-        return Verdict::No(Refusal::With(9, wrong));
+        return Err(Refusal::Surplus(wrong));
     }
     if (size as usize) < bytes.len() {
-        return Verdict::No(Refusal::With(9, surplus));
+        return Err(Refusal::Surplus(surplus));
     }
-    Verdict::Fine
+    Ok(())
 }
 
-fn refused(verdict: Verdict) -> Reading
-    ensures { (result.verdict ≡ verdict) × (result.sheet ≡ blank) }
-{
-    let none = Task {
-        period: 0,
-        budget: 0,
-        rank: 0,
-    };
-    let unused = Chain {
-        entries: [0u8; 16],
-        length: 0,
-        limit: 0,
-    };
-    let sheet = Sheet {
-        tasks: [none; 16],
-        chains: [unused; 8],
-        edition: 0,
-        count: 0,
-        suite: 0,
-    };
-    Reading { verdict, sheet }
-}
-
-// The sheet that bytes hold; a blank sheet stands beside a refusal.
-pub fn read(bytes: &[u8]) -> Reading
+// The sheet that bytes hold.
+#[tactic(auto, using(answers::specs::AnswerLaws::also_no, answers::specs::AnswerLaws::also_fine), unfolding(crate::specs::Calls::read_of))]
+pub fn read(bytes: &[u8]) -> Result<Sheet, Refusal>
     ensures { ReadPromise bytes.now result }
 {
     let sheet = spell(bytes);
-    let fields = judge_fields(sheet, bytes.len());
-    let Verdict::Fine = fields else {
-        return refused(fields);
-    };
-    let tail = judge_tail(bytes, end_of(sheet));
-    let Verdict::Fine = tail else {
-        return refused(tail);
-    };
-    Reading {
-        verdict: tail,
-        sheet,
-    }
+    judge_fields(sheet, bytes.len())?;
+    judge_tail(bytes, end_of(sheet))?;
+    Ok(sheet)
 }
 
 // The sheet's bytes at the front of a buffer, and how many they are.
-pub fn write(s: Sheet, out: &mut [u8]) -> Written
+#[tactic(auto, using(answers::specs::AnswerLaws::also_no, answers::specs::AnswerLaws::also_fine), unfolding(crate::specs::Calls::write_of))]
+pub fn write(s: Sheet, out: &mut [u8]) -> Result<usize, Refusal>
     ensures { WritePromise s out.old result out.new }
 {
-    let v = judge(s);
-    let Verdict::Fine = v else {
-        return Written::No(answers::refusal_of(v));
-    };
+    judge(s)?;
     let end = end_of(s);
     let size = (end + 7) / 8;
     if out.len() < size as usize {
-        return Written::No(Refusal::Number(14));
+        return Err(Refusal::Room);
     }
     put_fields(&mut *out, s);
     bits::put(&mut *out, end, size * 8 - end, 0);
-    Written::Bytes(size as usize)
-}
-
-// The refusal in an answer of the writer. Number 0, which no refusal has, stands for none.
-pub fn written_refusal(w: Written) -> Refusal
-    ensures { WrittenRefusalPromise w result }
-{
-    let Written::No(r) = w else {
-        return Refusal::Number(0);
-    };
-    r
+    Ok(size as usize)
 }
 
 // Chain one under this limit, the others as they are.
@@ -778,75 +697,57 @@ fn under(s: Sheet, limit: u32) -> [Chain; 8]
 }
 
 // The sheet in the second edition: an old one's chain is its only one, under the old limit.
-pub fn to_second(s: Sheet) -> Reading
+#[tactic(auto, using(answers::specs::AnswerLaws::also_no, answers::specs::AnswerLaws::also_fine), unfolding(crate::specs::Conversions::to_second))]
+pub fn to_second(s: Sheet) -> Result<Sheet, Refusal>
     ensures { ToSecondPromise s result }
 {
-    let v = judge(s);
-    let Verdict::Fine = v else {
-        return refused(v);
-    };
+    judge(s)?;
     if s.edition != 1 {
-        return Reading {
-            verdict: v,
-            sheet: s,
-        };
+        return Ok(s);
     }
     let tasks = s.tasks;
     let chains = under(s, OLD_LIMIT);
-    let sheet = Sheet {
+    Ok(Sheet {
         tasks,
         chains,
         edition: 2,
         count: s.count,
         suite: 1,
-    };
-    Reading { verdict: v, sheet }
+    })
 }
 
 // 18 for a sheet that an old one cannot hold.
-fn goes_back(s: Sheet) -> Verdict
-    ensures { told result ≡ when (stays s) 18 }
+fn goes_back(s: Sheet) -> Result<(), Refusal>
+    ensures { told result ≡ refused_if (stays s) Refusal.OldEdition }
 {
     if s.suite != 1 {
-        return Verdict::No(Refusal::Number(18));
+        return Err(Refusal::OldEdition);
     }
     if limit_of(s, 0) != OLD_LIMIT {
-        return Verdict::No(Refusal::Number(18));
+        return Err(Refusal::OldEdition);
     }
-    Verdict::Fine
+    Ok(())
 }
 
 // The sheet as an old one, if it has one chain under the old limit.
-pub fn to_first(s: Sheet) -> Reading
+#[tactic(auto, using(answers::specs::AnswerLaws::also_no, answers::specs::AnswerLaws::also_fine), unfolding(crate::specs::Conversions::to_first))]
+pub fn to_first(s: Sheet) -> Result<Sheet, Refusal>
     ensures { ToFirstPromise s result }
 {
-    let v = judge(s);
-    let Verdict::Fine = v else {
-        return refused(v);
-    };
+    judge(s)?;
     if s.edition == 1 {
-        return Reading {
-            verdict: v,
-            sheet: s,
-        };
+        return Ok(s);
     }
-    let back = goes_back(s);
-    let Verdict::Fine = back else {
-        return refused(back);
-    };
+    goes_back(s)?;
     let tasks = s.tasks;
     let chains = under(s, 0);
-    let sheet = Sheet {
+    Ok(Sheet {
         tasks,
         chains,
         edition: 1,
         count: s.count,
         suite: 0,
-    };
-    Reading {
-        verdict: back,
-        sheet,
-    }
+    })
 }
 
 // How many chains a sheet has; an old sheet has one.
@@ -860,11 +761,11 @@ pub fn chain_count(s: Sheet) -> u8
 }
 
 // 17 for a chain number that the sheet lacks; an old sheet has chain 1 alone.
-pub fn numbered(s: Sheet, number: u8) -> Verdict
+pub fn numbered(s: Sheet, number: u8) -> Result<(), Refusal>
     ensures { NumberedPromise s number result }
 {
     if s.edition == 1 {
-        return ranged(17, 1, 1, wide(number));
+        return ranged(Refusal::Chain, 1, 1, wide(number));
     }
-    ranged(17, 1, wide(s.suite), wide(number))
+    ranged(Refusal::Chain, 1, wide(s.suite), wide(number))
 }

@@ -1,9 +1,8 @@
 -- From the nearest one back: none that was passed holds the value, so what is left decides.
 use mathlib.Core.Path.{sym, ap, ◌∙◌}
 use native.Mathlib.Omega.{arith}
-use Rattle.answers.specs.Answers.{when}
 use Rattle.sheet.specs.Fields.{among}
-use Rattle.sheet.specs.Order.{nth}
+use Rattle.sheet.specs.Order.{refused_if, nth}
 use Rattle.sheet.specs.FieldLaws.{among_here, among_past, among_none}
 use Rattle.sheet.proofs.fresh.Goals as goal
 
@@ -15,7 +14,7 @@ returns-then-nth_of-v c =
     let a = c.args in
     let l = c.loop-j in
     let v = c.nth_of-v.result in
-    sym (ap (λ b. when b a.number) (l.invariant.1 ∙ among_here (nth a.values.now) l.j v (omega arith) (sym c.nth_of.ensures ∙ omega arith)))
+    sym (ap (λ b. refused_if b a.refusal) (l.invariant.1 ∙ among_here (nth a.values.now) l.j v (omega arith) (sym c.nth_of.ensures ∙ omega arith)))
 
 pub loop-j-preserved : goal.loop-j-preserved
 loop-j-preserved c =
@@ -28,4 +27,4 @@ pub returns : goal.returns
 returns c =
     let a = c.args in
     let l = c.loop-j in
-    sym (ap (λ b. when b a.number) (l.invariant.1 ∙ among_none (nth a.values.now) l.j c.nth_of-v.result (omega arith)))
+    sym (ap (λ b. refused_if b a.refusal) (l.invariant.1 ∙ among_none (nth a.values.now) l.j c.nth_of-v.result (omega arith)))

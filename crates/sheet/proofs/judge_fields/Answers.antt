@@ -4,7 +4,8 @@ use Prim.Native.Nat.{ℕ, ◌+◌, ◌*◌}
 use native.Mathlib.Omega.{arith}
 use lib.ListN.{get_or}
 use Rattle.theory.specs.Model.Schedule.{none}
-use Rattle.answers.specs.Answers.{also, told}
+use Rattle.std.proofs.lemmas.Result.{err_from_is_err_and}
+use Rattle.answers.specs.Answers.{also}
 use Rattle.answers.specs.AnswerLaws.{also_no, also_fine}
 use Rattle.sheet.specs.Fields.{kind_of, entries, fields, width, idle, value, with_offset, in_order}
 use Rattle.sheet.specs.Calls.{judged_in}
@@ -61,8 +62,8 @@ bounds-s-c c =
     let l = c.loop-at in
     omega (arith, c.chain_in-c.ensures, left_placed v l.f l.at l.invariant.2 l.invariant.3 (omega (arith, l.invariant.0)))
 
-pub returns-in_default : goal.returns-in_default
-returns-in_default c =
+pub returns-in_err-judge_field : goal.returns-in_err-judge_field
+returns-in_err-judge_field c =
     let a = c.args in
     let v = value a.s in
     let ranks = c.ranks_of-ranks.result in
@@ -71,14 +72,13 @@ returns-in_default c =
     let l = c.loop-at in
     let step = left_step v l.f l.at l.invariant.2 l.invariant.3 (omega (arith, l.invariant.0)) in
     let left = in_order judge (l.at + width l.f) step.rest in
-    let found = c.judge_field-found.ensures
-    ∙ ap₂ (λ i j. judged_by a.s.edition a.s.count a.s.suite (get_or a.s.tasks i none) ranks (get_or a.s.chains j idle) l.f) c.task_in-i.ensures c.chain_in-c.ensures
-    ∙ judged_around a.s ranks l.f c.ranks_of-ranks.ensures in
-    let no = c.in_default.is in
-    ap told no
-    ∙ sym (l.invariant.4 ∙ in_order_step step.is judge l.at
+    let found = c.judge_field.ensures
+    ∙ ap₂ (λ i j. with_offset l.at (judged_by a.s.edition a.s.count a.s.suite (get_or a.s.tasks i none) ranks (get_or a.s.chains j idle) l.f)) c.task_in-i.ensures c.chain_in-c.ensures
+    ∙ ap (with_offset l.at) (judged_around a.s ranks l.f c.ranks_of-ranks.ensures) in
+    let p = err_from_is_err_and c.from_residual.result c.from_residual.ensures.1 in
+    rw (p.1, p.2) (sym (l.invariant.4 ∙ in_order_step step.is judge l.at
     ∙ ap (λ j. also j left) (judged_whole_lem room v l.at l.f (omega (arith, c.if-len-next.false, c.width_of.ensures)))
-    ∙ also_no left (c.with_offset-v.ensures ∙ ap (with_offset l.at) found) no)
+    ∙ also_no left found c.in_err-judge_field.was))
 
 pub next_of-f-requires : goal.next_of-f-requires
 next_of-f-requires c =
@@ -100,9 +100,9 @@ loop-at-preserved c =
     let l = c.loop-at in
     let step = left_step v l.f l.at l.invariant.2 l.invariant.3 (omega (arith, l.invariant.0)) in
     let left = in_order judge (l.at + width l.f) step.rest in
-    let found = c.judge_field-found.ensures
-    ∙ ap₂ (λ i j. judged_by a.s.edition a.s.count a.s.suite (get_or a.s.tasks i none) ranks (get_or a.s.chains j idle) l.f) c.task_in-i.ensures c.chain_in-c.ensures
-    ∙ judged_around a.s ranks l.f c.ranks_of-ranks.ensures in
+    let found = c.judge_field.ensures
+    ∙ ap₂ (λ i j. with_offset l.at (judged_by a.s.edition a.s.count a.s.suite (get_or a.s.tasks i none) ranks (get_or a.s.chains j idle) l.f)) c.task_in-i.ensures c.chain_in-c.ensures
+    ∙ ap (with_offset l.at) (judged_around a.s ranks l.f c.ranks_of-ranks.ensures) in
     let w = c.width_of.ensures in
     let after_is = c.next_of-f.ensures ∙ ap₂ (λ n m. next (kind_of v) n m l.f) c.tasks_of-tasks.ensures (c.taken.ensures ∙ ap (entries v) c.chain_in-c.ensures) in (
       l.invariant.0,
@@ -112,7 +112,7 @@ loop-at-preserved c =
           (subst (λ k. Left v (after (kind_of v) v l.f) (l.at + k) step.rest) (sym w) step.later),
       l.invariant.4 ∙ in_order_step step.is judge l.at
           ∙ ap (λ j. also j left) (judged_whole_lem room v l.at l.f (omega (arith, c.if-len-next.false, w)))
-          ∙ also_fine left (c.with_offset-v.ensures ∙ ap (with_offset l.at) found) c.in-Fine.is
+          ∙ also_fine left found c.in_ok-judge_field.was
           ∙ ap (λ k. in_order judge (l.at + k) step.rest) (sym w),
     )
 

@@ -12,8 +12,8 @@ use Rattle.bits.specs.Laws.{length_bits, zero_bits}
 use Rattle.bits.specs.Lists.{sets_append}
 use Rattle.bits.specs.Bytes.{written_is}
 use Rattle.sheet.specs.declared.Sheet.{Sheet}
-use Rattle.answers.specs.Answers.{Answer, given, when, also, refusal}
-use Rattle.answers.specs.AnswerLaws.{also_no, also_fine, refusal_is}
+use Rattle.answers.specs.Answers.{Answer, given, when, also}
+use Rattle.answers.specs.AnswerLaws.{also_fine}
 use Rattle.sheet.specs.EncodedLaws.{length_packed}
 use Rattle.sheet.specs.Calls.{packed, end_of, size_of, write_of}
 use Rattle.sheet.proofs.write.Goals as goal
@@ -22,20 +22,12 @@ use Rattle.sheet.proofs.write.Goals as goal
 abbrev afterwards : Sheet → ℕ → Answer ℕ
 afterwards s room = also (when (ltb room (size_of s)) 14) (given (size_of s))
 
-pub returns-in_default : goal.returns-in_default
-unfolding write_of
-returns-in_default c =
-    let a = c.args in
-    let p = c.in_default.is in
-    let e = ap refusal (refusal_is c.refusal_of.ensures p) in
-    (e ∙ sym (also_no (afterwards a.s (length a.out.now)) c.judge-v.ensures p), refl)
-
 pub returns-then-out-size : goal.returns-then-out-size
 unfolding write_of
 returns-then-out-size c =
     let a = c.args in
     let room = length a.out.now in (
-      sym (also_fine (afterwards a.s room) c.judge-v.ensures c.in-Fine.is
+      sym (also_fine (afterwards a.s room) c.judge.ensures c.in_ok-judge.was
           ∙ ap (λ b. also (when b 14) (given (size_of a.s))) (lt-ltb room (size_of a.s) (omega (arith, c.end_of-end.ensures.0)))),
       refl,
     )
@@ -59,7 +51,7 @@ returns c =
     ∙ ap (λ k. sets (sets (unpack old) 0 bs) k pad) {x = end} {y = 0 + length bs} (omega (arith, long))
     ∙ sym (sets_append bs pad (unpack old) 0) in (
       ap (λ x. given ((x + 7) / 8)) end_is
-          ∙ sym (also_fine (afterwards s (length old)) c.judge-v.ensures c.in-Fine.is
+          ∙ sym (also_fine (afterwards s (length old)) c.judge.ensures c.in_ok-judge.was
           ∙ ap (λ b. also (when b 14) (given (size_of s))) (le-ltb (length old) (size_of s) fits)),
       written_is bs pad (length-append bs pad ∙ omega (arith, long, length_bits z 0)) (zero_bits z) old _
           (λ i. omega (arith, c.slice_known-1.given i)) (λ i. omega (arith, c.slice_known-3-1.given i)) (omega (arith, long, end_is)) put,

@@ -4,6 +4,8 @@ use Rattle.arith.specs.Ranges.{sum}
 use Rattle.bits.specs.Bits.{unpack, number}
 use Rattle.answers.specs.Answers.{Judgement, fine, when, with_value, also}
 use Rattle.sheet.specs.Calls.{tail_of}
+use Rattle.clocklog.specs.declared.answer.Kind.{Kind}
+use Rattle.clocklog.specs.declared.answer.Kind.TheVariants.{Start, Finish}
 use Rattle.clocklog.specs.Events.{Event, start, finish}
 
 -- "a 32-bit origin counter at some multiple of H, a record count of 12 bits, then per record a task index (4), a kind (1; zero is a start)
@@ -40,6 +42,11 @@ task bytes r = number (unpack bytes) (begin r) index_bits
 
 abbrev pub kind : List ℕ → ℕ → ℕ
 kind bytes r = number (unpack bytes) (begin r + index_bits) kind_bits
+
+-- The code's kinds by their numbers: "zero is a start".
+abbrev pub kind_in : Kind → ℕ
+kind_in Start = 0
+kind_in Finish = 1
 
 abbrev pub counter : List ℕ → ℕ → ℕ
 counter bytes r = number (unpack bytes) (begin r + index_bits + kind_bits) counter_bits

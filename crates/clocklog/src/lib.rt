@@ -9,11 +9,11 @@ ghost use Rattle.std.specs.Prelude.{◌≡◌, ◌-◌, ◌*◌, ◌<◌, ◌≤
 ghost use Rattle.bits.specs.Bits.{unpack};
 ghost use Rattle.answers.specs.Answers.{told};
 ghost use Rattle.sheet.specs.Calls.{first_one, tail_of};
-ghost use Rattle.clocklog.specs.Format.{most_time, begin, counter, before, gap, within, index_judged, kind_judged, counter_judged, entry_judged, records_judged, head_judged};
+ghost use Rattle.clocklog.specs.Format.{most_time, begin, kind, counter, before, gap, within, index_judged, kind_judged, counter_judged, entry_judged, records_judged, head_judged, kind_in};
 ghost use Rattle.clocklog.specs.Promises.{CountPromise, EntryPromise, JudgePromise};
 
-pub use answer::Entry;
-use answers::{Refusal, Verdict};
+pub use answer::{Entry, Kind};
+use answers::Refusal;
 
 // The widths of document 02, P6.
 const ORIGIN_BITS: u32 = 32;
@@ -60,7 +60,7 @@ fn counter_before(log: &[u8], r: u16) -> u32
 fn gap_at(log: &[u8], r: u16) -> u32
     ensures { result ≡ gap log.now r }
 {
-    std::num::wrapping_sub_u32(counter_at(log, r), counter_before(log, r))
+    counter_at(log, r).wrapping_sub(counter_before(log, r))
 }
 
 // How many records the log says that it has.
@@ -70,109 +70,115 @@ pub fn count(log: &[u8]) -> u16
     bits::number(log, ORIGIN_BITS, COUNT_BITS) as u16
 }
 
+// "A kind (1; zero is a start)": that of record r.
+fn kind_at(log: &[u8], r: u16) -> Kind
+    ensures { kind_in result ≡ kind log.now r }
+{
+    match bits::number(log, begin_of(r) + INDEX_BITS, KIND_BITS) {
+        0 => Kind::Start,
+        _ => Kind::Finish,
+    }
+}
+
 // Record r. A bit past the end counts as 0.
 pub fn entry(log: &[u8], r: u16) -> Entry
     ensures { EntryPromise log.now r result }
 {
-    let at = begin_of(r);
-    let task = bits::number(log, at, INDEX_BITS) as u8;
-    let kind = bits::number(log, at + INDEX_BITS, KIND_BITS) as u8;
-    let gap = gap_at(log, r);
-    Entry { task, kind, gap }
+    Entry {
+        task: bits::number(log, begin_of(r), INDEX_BITS) as u8,
+        kind: kind_at(log, r),
+        gap: gap_at(log, r),
+    }
 }
 
 // A field lies inside so many bytes.
-fn inside(len: usize, at: u32, width: u32) -> Verdict
+fn inside(len: usize, at: u32, width: u32) -> Result<(), Refusal>
     requires { (at < 5000000) × (width ≤ 32) }
     ensures { told result ≡ within (len * 8) at width }
 {
-    if len < ((at + width + 7) / 8) as usize {
-        return Verdict::No(Refusal::With(1, at));
+    if len < (at + width).div_ceil(8) as usize {
+        return Err(Refusal::Cut(at));
     }
-    Verdict::Fine
+    Ok(())
 }
 
-fn judge_index(len: usize, at: u32, tasks: u8, task: u8) -> Verdict
+fn judge_index(len: usize, at: u32, tasks: u8, task: u8) -> Result<(), Refusal>
     requires { at < 4000000 }
     ensures { told result ≡ index_judged (len * 8) at tasks task }
 {
-    let v = inside(len, at, INDEX_BITS);
-    let Verdict::Fine = v else {
-        return v;
-    };
+    inside(len, at, INDEX_BITS)?;
     if tasks <= task {
-        return Verdict::No(Refusal::Number(19));
+        return Err(Refusal::LogTask);
     }
-    Verdict::Fine
+    Ok(())
 }
 
-fn judge_kind(len: usize, at: u32, kind: u8, expected: u8) -> Verdict
+fn judge_kind(len: usize, at: u32, kind: Kind, expected: Kind) -> Result<(), Refusal>
     requires { at < 4000000 }
-    ensures { told result ≡ kind_judged (len * 8) at kind expected }
+    ensures { told result ≡ kind_judged (len * 8) at (kind_in kind) (kind_in expected) }
 {
-    let v = inside(len, at + INDEX_BITS, KIND_BITS);
-    let Verdict::Fine = v else {
-        return v;
-    };
+    inside(len, at + INDEX_BITS, KIND_BITS)?;
     if kind == expected {
-        return Verdict::Fine;
+        return Ok(());
     }
-    Verdict::No(Refusal::Number(20))
+    Err(Refusal::LogKind)
 }
 
 // The counter's difference, and the time so far with it.
-fn judge_counter(len: usize, at: u32, gap: u32, time: u32) -> Verdict
+fn judge_counter(len: usize, at: u32, gap: u32, time: u32) -> Result<(), Refusal>
     requires { (at < 4000000) × (time < most_time) }
     ensures { told result ≡ counter_judged (len * 8) at gap time }
 {
-    let v = inside(len, at + INDEX_BITS + KIND_BITS, COUNTER_BITS);
-    let Verdict::Fine = v else {
-        return v;
-    };
-    if MOST_TIME <= gap {
-        return Verdict::No(Refusal::Number(21));
+    inside(len, at + INDEX_BITS + KIND_BITS, COUNTER_BITS)?;
+    if MOST_TIME <= gap || MOST_TIME <= time + gap {
+        return Err(Refusal::LogTime);
     }
-    if MOST_TIME <= time + gap {
-        return Verdict::No(Refusal::Number(21));
-    }
-    Verdict::Fine
+    Ok(())
 }
 
 // A record that begins at a bit, "front to back".
-fn judge_entry(len: usize, at: u32, tasks: u8, e: Entry, expected: u8, time: u32) -> Verdict
+fn judge_entry(
+    len: usize,
+    at: u32,
+    tasks: u8,
+    e: Entry,
+    expected: Kind,
+    time: u32,
+) -> Result<(), Refusal>
     requires { (at < 4000000) × (time < most_time) }
-    ensures { told result ≡ entry_judged (len * 8) at tasks e.task e.kind e.gap expected time }
+    ensures { told result ≡ entry_judged (len * 8) at tasks e.task (kind_in e.kind) e.gap (kind_in expected) time }
 {
-    let v = judge_index(len, at, tasks, e.task);
-    let Verdict::Fine = v else {
-        return v;
-    };
-    let w = judge_kind(len, at, e.kind, expected);
-    let Verdict::Fine = w else {
-        return w;
-    };
+    judge_index(len, at, tasks, e.task)?;
+    judge_kind(len, at, e.kind, expected)?;
     judge_counter(len, at, e.gap, time)
 }
 
+impl Kind {
+    // The kind that the task's next record must have.
+    fn next(self) -> Kind
+        ensures { kind_in result ≡ 1 - kind_in self }
+    {
+        match self {
+            Kind::Start => Kind::Finish,
+            Kind::Finish => Kind::Start,
+        }
+    }
+}
+
 // The first n records. Of each task the kind that its next record must have stands in its place.
-fn judge_records(log: &[u8], tasks: u8, n: u16) -> Verdict
+fn judge_records(log: &[u8], tasks: u8, n: u16) -> Result<(), Refusal>
     ensures { told result ≡ records_judged log.now tasks 0 n }
 {
-    let mut expected = [0u8; 16];
+    let mut expected = [Kind::Start; 16];
     let mut time = 0u32;
-    let mut r = 0u16;
-    while r < n {
+    for r in 0..n {
         let e = entry(log, r);
         let i = e.task as usize;
-        let v = judge_entry(log.len(), begin_of(r), tasks, e, expected[i], time);
-        let Verdict::Fine = v else {
-            return v;
-        };
+        judge_entry(log.len(), begin_of(r), tasks, e, expected[i], time)?;
         time += e.gap;
-        expected[i] = 1 - e.kind;
-        r += 1;
+        expected[i] = e.kind.next();
     }
-    Verdict::Fine
+    Ok(())
 }
 
 // The first bit that is 1 from a bit on, or the end if none before it is.
@@ -180,18 +186,16 @@ fn first_one(log: &[u8], at: u32, end: u32) -> u32
     requires { at ≤ end }
     ensures { result ≡ first_one (unpack log.now) at (end - at) }
 {
-    let mut k = at;
-    while k < end {
+    for k in at..end {
         if 0 < bits::number(log, k, 1) {
             return k;
         }
-        k += 1;
     }
     end
 }
 
 // What follows the last field.
-fn judge_tail(log: &[u8], end: u32) -> Verdict
+fn judge_tail(log: &[u8], end: u32) -> Result<(), Refusal>
     requires { end < 4000000 }
     ensures { told result ≡ tail_of log.now end }
 {
@@ -199,36 +203,27 @@ fn judge_tail(log: &[u8], end: u32) -> Verdict
     let surplus = size * 8;
     let wrong = first_one(log, end, surplus);
     if wrong < surplus {
-        return Verdict::No(Refusal::With(9, wrong));
+        return Err(Refusal::Surplus(wrong));
     }
     if (size as usize) < log.len() {
-        return Verdict::No(Refusal::With(9, surplus));
+        return Err(Refusal::Surplus(surplus));
     }
-    Verdict::Fine
+    Ok(())
 }
 
-fn judge_head(len: usize) -> Verdict
+fn judge_head(len: usize) -> Result<(), Refusal>
     ensures { told result ≡ head_judged (len * 8) }
 {
-    let v = inside(len, 0, ORIGIN_BITS);
-    let Verdict::Fine = v else {
-        return v;
-    };
+    inside(len, 0, ORIGIN_BITS)?;
     inside(len, ORIGIN_BITS, COUNT_BITS)
 }
 
 // The log's refusals "front to back", for a sheet of so many tasks.
-pub fn judge(log: &[u8], tasks: u8) -> Verdict
+pub fn judge(log: &[u8], tasks: u8) -> Result<(), Refusal>
     ensures { JudgePromise log.now tasks result }
 {
-    let v = judge_head(log.len());
-    let Verdict::Fine = v else {
-        return v;
-    };
+    judge_head(log.len())?;
     let n = count(log);
-    let w = judge_records(log, tasks, n);
-    let Verdict::Fine = w else {
-        return w;
-    };
+    judge_records(log, tasks, n)?;
     judge_tail(log, begin_of(n))
 }

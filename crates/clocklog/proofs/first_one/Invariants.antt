@@ -1,10 +1,7 @@
-use Rattle.std.proofs.Common.{◌≡◌, ◌-◌, ◌≤◌}
+use Rattle.std.proofs.Common.{◌≡◌, ◌-◌}
 use Rattle.bits.specs.Bits.{unpack}
 use Rattle.sheet.specs.Calls.{first_one}
 use Rattle.clocklog.proofs.first_one.Given as goal
 
 abbrev pub invariant-loop-k : goal.invariant-loop-k
-invariant-loop-k l = (l.at ≤ l.k) × (l.k ≤ l.end) × (first_one (unpack l.log) l.at (l.end - l.at) ≡ first_one (unpack l.log) l.k (l.end - l.k))
-
-abbrev pub decreases-loop-k : goal.decreases-loop-k
-decreases-loop-k l = l.end - l.k
+invariant-loop-k l = first_one (unpack l.log) l.at (l.end - l.at) ≡ first_one (unpack l.log) l.k (l.end - l.k)

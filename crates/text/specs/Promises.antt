@@ -1,14 +1,14 @@
 -- What each call promises of its inputs, its answer, and lent memory before and after.
-use Rattle.std.specs.Prelude.{◌≡◌, List, ℕ, length}
+use Rattle.std.specs.Prelude.{◌≡◌, List, ℕ, length, Result}
+use Rattle.answers.specs.declared.Refusal.{Refusal}
+use Rattle.answers.specs.Answers.{told}
 use Rattle.sheet.specs.declared.Sheet.{Sheet}
-use Rattle.sheet.specs.declared.Written.{Written}
-use Rattle.sheet.specs.Answers.{told_bytes}
 use Rattle.text.specs.declared.Parsed.{Parsed}
 use Rattle.text.specs.Calls.{show_of, page_after}
 use Rattle.text.specs.Run.{parse_of}
 
-abbrev pub ShowPromise : Sheet → List ℕ → Written → List ℕ → Type 0
-ShowPromise s old w new = (told_bytes w ≡ show_of s (length old)) × (new ≡ page_after (told_bytes w) s old)
+abbrev pub ShowPromise : Sheet → List ℕ → Result ℕ Refusal → List ℕ → Type 0
+ShowPromise s old w new = (told w ≡ show_of s (length old)) × (new ≡ page_after (told w) s old)
 
 abbrev pub ParsePromise : List ℕ → Parsed → Type 0
 ParsePromise text r = r ≡ parse_of text

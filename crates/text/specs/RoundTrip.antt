@@ -1,13 +1,10 @@
 -- Reading the shown text gives back the same sheet, from call to call.
-use Rattle.std.specs.Prelude.{◌≡◌, refl, cond, List, [], ℕ, ltb, length, take, drop}
+use Rattle.std.specs.Prelude.{◌≡◌, cond, List, [], ℕ, ltb, length, take, drop, Ok}
 use Rattle.std.proofs.Common.{sym, ap, ap₂, ◌∙◌, arith, take_at, le-ltb}
 use Rattle.answers.specs.Answers.{given, fine, when, also}
-use Rattle.answers.specs.declared.Verdict.TheVariants.{Fine}
-use Rattle.answers.specs.AnswerLaws.{also_given, also_fine}
+use Rattle.answers.specs.AnswerLaws.{also_given}
 use Rattle.bits.specs.Bytes.{Bytes as AreBytes}
 use Rattle.sheet.specs.declared.Sheet.{Sheet}
-use Rattle.sheet.specs.declared.Reading.{Reading}
-use Rattle.sheet.specs.declared.Written.TheVariants.{Bytes}
 use Rattle.sheet.specs.Calls.{judge_of, RanksFit, cleared, read_of}
 use Rattle.sheet.specs.Promises.{ReadPromise}
 use Rattle.sheet.specs.EncodedLaws.{encoded_read, read_encoded, read_judged}
@@ -39,7 +36,7 @@ parse_text s e fit =
     ∙ settled_fine text r.draft [] r.right ∙ ap (λ x. record { fault = 0; line = 0; column = 0; sheet = x }) r.same
 
 -- What `show` put into the first n bytes, `parse` answers with the same sheet, the unused places zero.
-pub show_parse : (s : Sheet) (old new : List ℕ) (n : ℕ) (x : Parsed) → RanksFit s → ShowPromise s old (Bytes n) new → ParsePromise (take n new) x
+pub show_parse : (s : Sheet) (old new : List ℕ) (n : ℕ) (x : Parsed) → RanksFit s → ShowPromise s old (Ok n) new → ParsePromise (take n new) x
     → (x.fault ≡ 0) × (x.sheet ≡ cleared s)
 show_parse s old new n x fit h p =
     let f = shown_fine s (length old) n (sym h.0) in
@@ -54,10 +51,9 @@ read_cleared bytes s fit e =
     let q : given (cleared s) ≡ given s = sym (encoded_read s j.1 j.0) ∙ ap read_of (read_encoded bytes s fit e) ∙ e in cc
 
 -- So what stands on the page is what the bytes say: the sheet that was read from them is the one that its text says.
-pub read_show_parse : (bytes old new : List ℕ) (r : Reading) (n : ℕ) (x : Parsed) → AreBytes bytes → ReadPromise bytes r → r.verdict ≡ Fine
-    → ShowPromise r.sheet old (Bytes n) new → ParsePromise (take n new) x → (x.fault ≡ 0) × (x.sheet ≡ r.sheet)
-read_show_parse bytes old new r n x fit h f shown parsed =
-    let s = r.sheet in
-    let e : read_of bytes ≡ given s = sym h.0 ∙ also_fine (given s) refl f in
+pub read_show_parse : (bytes old new : List ℕ) (s : Sheet) (n : ℕ) (x : Parsed) → AreBytes bytes → ReadPromise bytes (Ok s)
+    → ShowPromise s old (Ok n) new → ParsePromise (take n new) x → (x.fault ≡ 0) × (x.sheet ≡ s)
+read_show_parse bytes old new s n x fit r shown parsed =
+    let e : read_of bytes ≡ given s = sym r in
     let p = show_parse s old new n x (read_judged bytes s e).1 shown parsed in
     (p.0, p.1 ∙ read_cleared bytes s fit e)

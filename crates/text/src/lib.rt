@@ -13,8 +13,8 @@ ghost use Rattle.text.specs.Shown.{numeral, task_line, task_lines, entry_word, e
 ghost use Rattle.text.specs.Puts.{Puts};
 ghost use Rattle.text.specs.Promises.{ShowPromise, ParsePromise};
 
-use answers::{Refusal, Verdict};
-use sheet::{Chain, Sheet, Written};
+use answers::Refusal;
+use sheet::{Chain, Sheet};
 use theory::Task;
 
 fn wide(x: u32) -> u64
@@ -185,20 +185,18 @@ fn put_sheet(out: &mut [u8], s: Sheet) -> usize
 
 // A sheet as text at the front of a buffer, and how many bytes it takes: that is found where there is no room, so that a buffer that is
 // too small stays as it was.
-pub fn show(s: Sheet, out: &mut [u8]) -> Written
+#[tactic(auto, using(answers::specs::AnswerLaws::also_no, answers::specs::AnswerLaws::also_fine), unfolding(crate::specs::Calls::show_of))]
+pub fn show(s: Sheet, out: &mut [u8]) -> Result<usize, Refusal>
     ensures { ShowPromise s out.old result out.new }
 {
-    let v = sheet::judge(s);
-    let Verdict::Fine = v else {
-        return Written::No(answers::refusal_of(v));
-    };
+    sheet::judge(s)?;
     let mut nothing = [0u8; 1];
     let size = put_sheet(&mut nothing, s);
     if out.len() < size {
-        return Written::No(Refusal::Number(14));
+        return Err(Refusal::Room);
     }
     put_sheet(&mut *out, s);
-    Written::Bytes(size)
+    Ok(size)
 }
 
 // ---- a text read

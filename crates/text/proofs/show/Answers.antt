@@ -7,8 +7,8 @@ use lib.Dec.{ltb}
 use lib.ListN.{length, drop}
 use lib.Seq.{sets-eq}
 use borrow.Author.Tests.{lt-ltb, le-ltb}
-use Rattle.answers.specs.Answers.{Answer, given, when, also, refusal}
-use Rattle.answers.specs.AnswerLaws.{also_no, also_fine, refusal_is}
+use Rattle.answers.specs.Answers.{Answer, given, when, also}
+use Rattle.answers.specs.AnswerLaws.{also_fine}
 use Rattle.sheet.specs.declared.Sheet.{Sheet}
 use Rattle.text.specs.Shown.{text_of}
 use Rattle.text.specs.Calls.{show_of}
@@ -18,21 +18,13 @@ use Rattle.text.proofs.show.Goals as goal
 abbrev afterwards : Sheet → ℕ → Answer ℕ
 afterwards s room = also (when (ltb room (length (text_of s))) 14) (given (length (text_of s)))
 
-pub returns-in_default : goal.returns-in_default
-unfolding show_of
-returns-in_default c =
-    let a = c.args in
-    let p = c.in_default.is in
-    let e = ap refusal (refusal_is c.refusal_of.ensures p) in
-    (e ∙ sym (also_no (afterwards a.s (length a.out.now)) c.judge-v.ensures p), refl)
-
 pub returns-then-out-size : goal.returns-then-out-size
 unfolding show_of
 returns-then-out-size c =
     let a = c.args in
     let s = a.s in
     let room = length a.out.now in (
-      sym (also_fine (afterwards s room) c.judge-v.ensures c.in-Fine.is
+      sym (also_fine (afterwards s room) c.judge.ensures c.in_ok-judge.was
           ∙ ap (λ b. also (when b 14) (given (length (text_of s)))) (lt-ltb room (length (text_of s)) (omega (arith, c.put_sheet-size.ensures.ends)))),
       refl,
     )
@@ -48,7 +40,7 @@ returns c =
     let size : c.put_sheet-size.result ≡ length text = omega (arith, c.put_sheet-size.ensures.ends) in
     let fits : length text ≤ room = omega (arith, size, c.if-out-size.false) in (
       ap given size
-          ∙ sym (also_fine (afterwards s room) c.judge-v.ensures c.in-Fine.is
+          ∙ sym (also_fine (afterwards s room) c.judge.ensures c.in_ok-judge.was
           ∙ ap (λ b. also (when b 14) (given (length text))) (le-ltb room (length text) fits)),
       c.put_sheet.ensures.holds ∙ sets-eq text old 0 (omega arith) ∙ ap (λ k. text ++ drop k old) {x = 0 + length text} {y = length text} (omega arith),
     )

@@ -1,6 +1,6 @@
 -- The contract of each call is its promise: what a caller learns of it is the predicate of `Promises`, no more and no less.
 use mathlib.Core.Path.{◌≡◌, refl}
-use Rattle.sheet.specs.Promises.{JudgePromise, ReadPromise, ToSecondPromise, ToFirstPromise, WritePromise, ChainCountPromise, NumberedPromise}
+use Rattle.sheet.specs.Promises.{JudgePromise, JudgedPromise, ReadPromise, ToSecondPromise, ToFirstPromise, WritePromise, ChainCountPromise, NumberedPromise, ChainPromise}
 use Rattle.sheet.proofs.judge.Reads as judge
 use Rattle.sheet.proofs.read.Reads as read
 use Rattle.sheet.proofs.write.Reads as write
@@ -8,6 +8,8 @@ use Rattle.sheet.proofs.to_second.Reads as to_second
 use Rattle.sheet.proofs.to_first.Reads as to_first
 use Rattle.sheet.proofs.chain_count.Reads as chain_count
 use Rattle.sheet.proofs.numbered.Reads as numbered
+use Rattle.sheet.proofs.judged.Reads as judged
+use Rattle.sheet.proofs.chain_of.Reads as chain_of
 
 judge_promised : judge.Learnt ≡ (λ κs a r e. JudgePromise a.0 r)
 judge_promised = refl
@@ -29,3 +31,9 @@ chain_count_promised = refl
 
 numbered_promised : numbered.Learnt ≡ (λ κs a r e. NumberedPromise a.0 a.1.0 r)
 numbered_promised = refl
+
+judged_promised : judged.Learnt ≡ (λ κs a r e. JudgedPromise a.0 r)
+judged_promised = refl
+
+chain_of_promised : chain_of.Learnt ≡ (λ κs a r e. ChainPromise a.0 a.1.0 r)
+chain_of_promised = refl

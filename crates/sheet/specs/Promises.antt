@@ -1,14 +1,19 @@
 -- What each call promises of its inputs, its answer, and lent memory before and after.
 use Rattle.std.specs.Prelude.{◌≡◌, List, ℕ, length, Result}
 use Rattle.answers.specs.declared.Refusal.{Refusal}
-use Rattle.answers.specs.Answers.{told}
+use Rattle.answers.specs.Answers.{given, after, also, told}
+use Rattle.sheet.specs.declared.Chain.{Chain}
 use Rattle.sheet.specs.declared.Sheet.{Sheet}
+use Rattle.sheet.specs.declared.sound.Judged.{Judged}
 use Rattle.sheet.specs.Calls.{judge_of, read_of, write_of, buffer_after}
 use Rattle.sheet.specs.Conversions.{to_second, to_first}
-use Rattle.sheet.specs.Tasks.{chain_count, lacks}
+use Rattle.sheet.specs.Tasks.{chain_count, lacks, chain_at}
 
 abbrev pub JudgePromise : Sheet → Result Unit Refusal → Type 0
 JudgePromise s v = told v ≡ judge_of s
+
+abbrev pub JudgedPromise : Sheet → Result Judged Refusal → Type 0
+JudgedPromise s r = after (told r) (λ x. given x.sheet) ≡ also (judge_of s) (given s)
 
 abbrev pub ReadPromise : List ℕ → Result Sheet Refusal → Type 0
 ReadPromise bytes r = told r ≡ read_of bytes
@@ -27,3 +32,6 @@ ChainCountPromise s r = r ≡ chain_count s
 
 abbrev pub NumberedPromise : Sheet → ℕ → Result Unit Refusal → Type 0
 NumberedPromise s number v = told v ≡ lacks s number
+
+abbrev pub ChainPromise : Judged → ℕ → Result Chain Refusal → Type 0
+ChainPromise s number r = told r ≡ also (lacks s.sheet number) (given (chain_at s.sheet number))

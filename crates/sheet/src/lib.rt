@@ -12,10 +12,13 @@ ghost use Rattle.sheet.specs.Fields.{old, new, kind_of, tasks, chains, entries, 
 ghost use Rattle.sheet.specs.Calls.{places, unused, packed, end_of, task_bits, chain_from, sheet_of, spelt, judged_in, first_one, tail_of};
 ghost use Rattle.sheet.specs.Conversions.{limited, stays};
 ghost use Rattle.sheet.specs.Order.{refused_if, sheet_spelt, task_at, chain_spelt, begins, chain_bits, kind_by, opening, chain_opening, suite_opening, task_opening, entry_opening, next, task_in, chain_in, entry_in, nth, entry_judged, judged_by};
-ghost use Rattle.sheet.specs.Promises.{JudgePromise, ReadPromise, WritePromise, ToSecondPromise, ToFirstPromise, ChainCountPromise, NumberedPromise};
+ghost use Rattle.sheet.specs.Promises.{JudgePromise, JudgedPromise, ReadPromise, WritePromise, ToSecondPromise, ToFirstPromise, ChainCountPromise, NumberedPromise, ChainPromise};
 ghost use Rattle.sheet.specs.declared.Field.TheVariants.{Mark, Rank, Limit, Length};
 
+pub mod sound;
+
 use answers::Refusal;
+use sound::Judged;
 use theory::Task;
 
 #[derive(Clone, Copy, Default, PartialEq, Eq)]
@@ -457,6 +460,14 @@ pub fn judge(s: Sheet) -> Result<(), Refusal>
     judge_fields(s, 178)
 }
 
+// The same sheet, known to be judged fine.
+pub fn judged(s: Sheet) -> Result<Judged, Refusal>
+    ensures { JudgedPromise s result }
+{
+    judge(s)?;
+    Ok(Judged { sheet: s })
+}
+
 // The fields of a sheet in order, from the first bit on.
 fn put_fields(out: &mut [u8], s: Sheet)
     ensures { unpack out.new ≡ sets (unpack out.old) 0 (packed s) }
@@ -768,4 +779,12 @@ pub fn numbered(s: Sheet, number: u8) -> Result<(), Refusal>
         return ranged(Refusal::Chain, 1, 1, wide(number));
     }
     ranged(Refusal::Chain, 1, wide(s.suite), wide(number))
+}
+
+// The chain of a number, or 17 where the sheet lacks it.
+pub fn chain_of(s: Judged, number: u8) -> Result<Chain, Refusal>
+    ensures { ChainPromise s number result }
+{
+    numbered(s.sheet, number)?;
+    Ok(s.sheet.chains[number as usize - 1])
 }

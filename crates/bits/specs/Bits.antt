@@ -1,5 +1,6 @@
 -- Bits, most significant first: the numbers that they spell, and the bytes that hold them.
-use Rattle.std.specs.Prelude.{Bool, true, false, List, [], ◌∷◌, ◌++◌, ℕ, zero, suc, ◌+◌, ◌*◌, ◌/◌, ◌%◌, ◌^◌, eqb, length, get_or, drop}
+use Rattle.std.specs.Prelude.{Bool, true, false, cond, List, [], ◌∷◌, ◌++◌, ℕ, zero, suc, ◌+◌, ◌-◌, ◌*◌, ◌/◌, ◌%◌, ◌^◌, ◌||◌, eqb, ltb, length, get_or, drop, Option}
+use Rattle.std.specs.Bool.{then_some}
 
 abbrev pub one : Bool → ℕ
 one true = 1
@@ -39,3 +40,18 @@ bytes_of bs = list_of (bytes_for (length bs)) (λ i. number bs (i * 8) 8)
 -- A buffer with these bits at its front, to the end of the byte, and the rest as it was.
 unfoldable pub written : List Bool → List ℕ → List ℕ
 written bs old = bytes_of bs ++ drop (bytes_for (length bs)) old
+
+-- The first bit that is 1 of the w bits from place `at` on, or the bit after them if none is.
+unfoldable pub first_one : List Bool → ℕ → ℕ → ℕ
+first_one bs at zero = at
+first_one bs at (suc w) = cond (get_or bs at false) at (first_one bs (suc at) w)
+
+-- The first bit that is wrong after a last one: one that is 1 before the end of the byte, or else the first of a byte that follows.
+abbrev pub wrong_bit : List Bool → ℕ → ℕ
+wrong_bit bs end = first_one bs end (bytes_for end * 8 - end)
+
+-- It, where a bit is 1 before the end of the byte or a byte follows.
+unfoldable pub surplus_of : List ℕ → ℕ → Option ℕ
+surplus_of bytes end =
+    let wrong = wrong_bit (unpack bytes) end in
+    then_some (ltb wrong (bytes_for end * 8) || ltb (bytes_for end) (length bytes)) wrong

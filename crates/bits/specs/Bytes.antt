@@ -46,6 +46,14 @@ byte_number s i b h =
 pub byte_past : (s : List ℕ) (i : ℕ) → length s ≤ i → number (unpack s) (i * 8) 8 ≡ 0
 byte_past s i h = number_zero (unpack s) (i * 8) 8 (λ k l. get_or-eq_default (unpack s) false (omega (arith, length_unpack s)))
 
+-- so it is what a list of bytes is read as
+pub byte_read : (s : List ℕ) (i : ℕ) → Bytes s → number (unpack s) (i * 8) 8 ≡ get_or s i 0
+byte_read s i b = go (dec_lt i (length s))
+  where
+    go : Dec (i < length s) → number (unpack s) (i * 8) 8 ≡ get_or s i 0
+    go (yes h) = byte_number s i b h
+    go (no h) = byte_past s i (omega arith) ∙ sym (get_or-eq_default s 0 {n = i} (omega arith))
+
 -- so bytes are known by their bits
 pub bytes_same : (s t : List ℕ) → Bytes s → Bytes t → length s ≡ length t → ((p : ℕ) → p < length s * 8 → bit_at s p ≡ bit_at t p) → s ≡ t
 bytes_same s t p q e h =

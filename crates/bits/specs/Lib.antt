@@ -5,5 +5,6 @@ pub mod Promises
 pub mod Lists
 pub mod Laws
 pub mod Bytes
+pub mod SurplusLaws
 -- The results.
 pub mod Unique

@@ -26,8 +26,7 @@ use Rattle.sheet.specs.declared.Sheet.{Sheet}
 use Rattle.sheet.specs.Sound.{Sound}
 use Rattle.sheet.specs.Tasks.{tasks_of}
 use Rattle.sheet.specs.TaskLaws.{sound_proper, tasks_length, task_allowed}
-use Rattle.schedule.specs.declared.answer.Row.{Row}
-use Rattle.schedule.specs.declared.answer.Row.TheVariants.{Rests, Late}
+use Rattle.std.specs.Prelude.{Option, Some, None}
 use Rattle.schedule.specs.Calls.{most_ticks, late_task, row}
 use Rattle.schedule.specs.Lateness.{job_late, late_job}
 use Rattle.schedule.specs.Conditions.{Period, brings, placed, coming, most_clear, rests_to, Additive, Level, Walk, Walked, RowFilled}
@@ -104,8 +103,8 @@ module _ (s : Sheet) (ok : Sound s) (i : ℕ) (known : i < s.count) where
     }
 
     -- A job that the walk clears is on time, and the ticks it takes are its response; one that it does not clear is late.
-    pub row_filled : (xs : List ℕ) (r : Row) → length xs ≡ jobs ts i → Walked a (period ts i) h xs r → RowFilled ts i xs r
-    row_filled xs (Rests rests) n (cleared, rested) = record {
+    pub row_filled : (xs : List ℕ) (r : Option ℕ) → length xs ≡ jobs ts i → Walked a (period ts i) h xs r → RowFilled ts i xs r
+    row_filled xs (Some rests) n (cleared, rested) = record {
       noted = (on_time (late_task ts i) refl, rested ∙ ap (rests_to a) is.is_hyperperiod);
       filled = λ e. ext_get_or 0 xs (row ts i) (n ∙ sym (length_list_of (jobs ts i) (response ts i)))
           (λ k l. responds k l ∙ sym (get_d_list_of (jobs ts i) (response ts i) k 0 (omega arith)));
@@ -121,7 +120,7 @@ module _ (s : Sheet) (ok : Sound s) (i : ℕ) (known : i < s.count) where
             let x = late_job ts i e in
             let y = cleared x.0 (omega (arith, x.1)) in
             absurd (zero_on_time (sound_proper _ ok) i x.0 listed (x.0 * period ts i + get_or xs x.0 0) y.clears.after (omega (arith, y.soon)) y.clears.is_zero x.2)
-    row_filled xs Late n (k, l, blocked) = let late = job_late ts i k (omega arith) (no_zero_late (sound_proper _ ok) i k listed blocked) in record {
+    row_filled xs None n (k, l, blocked) = let late = job_late ts i k (omega arith) (no_zero_late (sound_proper _ ok) i k listed blocked) in record {
       noted = late;
       filled = λ e. absurd (let z : ◌≡◌ {A = ℕ} 0 1 = cc (late, e) in omega arith);
     }

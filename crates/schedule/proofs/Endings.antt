@@ -18,7 +18,8 @@ use Rattle.sheet.specs.Tasks.{tasks_of}
 use Rattle.sheet.specs.TaskLaws.{tasks_length}
 use Rattle.schedule.specs.declared.answer.Totals.{Totals}
 use Rattle.schedule.specs.declared.answer.Size.{Size}
-use Rattle.schedule.specs.declared.answer.Found.TheVariants.{Lowest, Late as LateFound}
+use Rattle.std.specs.Prelude.{Ok, Err}
+use Rattle.schedule.specs.declared.answer.Lowest.{Lowest}
 use Rattle.schedule.specs.Calls.{late_greatest, rows, sizes_of, responses_of, table_after}
 use Rattle.schedule.specs.Promises.{AnswersAs}
 use Rattle.schedule.specs.NumberLaws.{sizes_never_15}
@@ -45,19 +46,19 @@ module _ (s : Sheet) (old : List ℕ) where
       ts = tasks_of s
 
       -- A late task: the first J entries are cleared.
-      pub answers_late : {i : ℕ} {table : List ℕ} → Filled ts s.count (all_jobs ts) old table (LateFound i)
+      pub answers_late : {i : ℕ} {table : List ℕ} → Filled ts s.count (all_jobs ts) old table (Err i)
           → AnswersAs (responses_of s (length old)) s old (refused 15 (i ∷ [])) (replicate size.jobs 0 ++ drop size.jobs table)
       answers_late {i} {table} f =
           answers (responses_late s (length old) fits room (ap (late_greatest ts) (tasks_length _ ok) ∙ f.told.is_greatest))
           (ap (λ n. replicate n 0 ++ drop n table) (sizes_given s fits).jobs_are ∙ ap (λ xs. replicate (all_jobs ts) 0 ++ xs) f.untouched)
 
       -- None is late: the rows stand there.
-      pub answers_full : {low rests : ℕ} {table : List ℕ} → Filled ts s.count (all_jobs ts) old table (Lowest low rests)
-          → AnswersAs (responses_of s (length old)) s old (given (record { hyperperiod = size.hyperperiod; jobs = size.jobs; idle = rests })) table
-      answers_full {low} {rests} {table} f =
+      pub answers_full : {lowest : Lowest} {table : List ℕ} → Filled ts s.count (all_jobs ts) old table (Ok lowest)
+          → AnswersAs (responses_of s (length old)) s old (given (record { hyperperiod = size.hyperperiod; jobs = size.jobs; idle = lowest.rests })) table
+      answers_full {lowest} {table} f =
           answers (responses_full s (length old) fits room (ap (late_greatest ts) (tasks_length _ ok) ∙ f.told.none_late)
           ∙ ap (λ x. given (record { hyperperiod = size.hyperperiod; jobs = size.jobs; idle = x })) (sym idles))
           (sym (take-append-drop (all_jobs ts) table) ∙ ap₂ ◌++◌ (f.filled f.told.none_late ∙ ap (rows ts) (sym (tasks_length _ ok))) f.untouched)
         where
-          idles : rests ≡ idle_ticks ts
-          idles = lowest_idle ts (omega (arith, tasks_length _ ok, ok.count_least)) (subst (λ n. LowestTo ts n low rests) (sym (tasks_length _ ok)) f.told)
+          idles : lowest.rests ≡ idle_ticks ts
+          idles = lowest_idle ts (omega (arith, tasks_length _ ok, ok.count_least)) (subst (λ n. LowestTo ts n lowest.task lowest.rests) (sym (tasks_length _ ok)) f.told)

@@ -1,26 +1,17 @@
--- Lists that are filled from the front: zeros, and rows one after the other.
+-- A table that is filled from the front, row after row.
 use mathlib.Core.Path.{◌≡◌, sym, ap, ap₂, ◌∙◌}
 use mathlib.Core.List.{List, ◌++◌}
-use Prim.Native.Nat.{ℕ, suc, ◌+◌, ◌-◌, ◌≤◌, ◌<◌}
-use native.Mathlib.Numerals.{add-one}
+use Prim.Native.Nat.{ℕ, suc, ◌+◌, ◌-◌, ◌≤◌}
 use native.Mathlib.Omega.{arith}
-use lib.ListN.{length, set, take, drop, replicate, length-drop, length-replicate, replicate-append-replicate}
-use lib.Seq.{length-take-le, drop-cons, drop-drop, take-append-add, take_at, set_at, append_snoc}
+use lib.ListN.{length, take, drop, length-drop}
+use lib.Seq.{length-take-le, drop-drop, take-append-add, take_at}
 use borrow.Rule.Slice.PartMut.{put_mid, post_of, drop_put, same_len_mid}
 use Rattle.theory.specs.declared.Task.{Task}
-use Rattle.schedule.specs.declared.answer.Row.{Row}
-use Rattle.schedule.specs.declared.answer.Found.{Found}
+use Rattle.std.specs.Prelude.{Option, Result}
+use Rattle.schedule.specs.declared.answer.Lowest.{Lowest}
 use Rattle.schedule.specs.Calls.{rows}
 use Rattle.schedule.specs.Conditions.{RowFilled, FoundTo, Filled}
 use Rattle.schedule.proofs.Notes.{none_late_before}
-
--- One zero more.
-pub zero_more : (old : List ℕ) (k : ℕ) → k < length old → set (replicate k 0 ++ drop k old) k 0 ≡ replicate (k + 1) 0 ++ drop (k + 1) old
-zero_more old k l =
-    ap (λ xs. set (replicate k 0 ++ xs) k 0) (drop-cons old k 0 l)
-    ∙ set_at (replicate k 0) _ (drop (suc k) old) 0 k (length-replicate k 0)
-    ∙ sym (append_snoc (replicate k 0) 0 (drop (suc k) old))
-    ∙ ap₂ ◌++◌ (replicate-append-replicate k 1 0) (ap (λ n. drop n old) (sym (add-one k)))
 
 -- The part of n entries from a on.
 pub part_length : (a n : ℕ) (xs : List ℕ) → a + n ≤ length xs → length (take (a + n - a) (drop a xs)) ≡ n
@@ -42,7 +33,7 @@ module _ (ts : List Task) (i a n : ℕ) (old xs ys : List ℕ) (room : a + n ≤
   from_on : drop a xs ≡ drop a old → drop (a + n) new ≡ drop (a + n) old
   from_on e = drop_put a (a + n) xs ys (omega arith) room within ∙ sym (drop-drop n a xs) ∙ ap (drop n) e ∙ drop-drop n a old
 
-  pub row_more : {found found' : Found} {r : Row} → Filled ts i a old xs found → RowFilled ts i ys r → FoundTo ts (suc i) found' → Filled ts (suc i) (a + n) old new found'
+  pub row_more : {found found' : Result Lowest ℕ} {r : Option ℕ} → Filled ts i a old xs found → RowFilled ts i ys r → FoundTo ts (suc i) found' → Filled ts (suc i) (a + n) old new found'
   unfolding rows
   row_more f r told = record {
     told = told;

@@ -1,6 +1,6 @@
 -- The answers case by case: what each is given for, and what is known where it is given.
-use Rattle.std.specs.Prelude.{◌≡◌, refl, [], ◌∷◌, ℕ, ◌≤◌, ◌<◌, ltb, length, replicate}
-use Rattle.std.proofs.Common.{sym, ap, ◌∙◌}
+use Rattle.std.specs.Prelude.{◌≡◌, refl, List, [], ◌∷◌, ℕ, ◌≤◌, ◌<◌, ltb, length, replicate}
+use Rattle.std.proofs.Common.{sym, ap}
 use borrow.Author.Tests.{ltb-false, lt-ltb, le-ltb}
 use Rattle.bits.specs.Bits.{list_of}
 use Rattle.theory.specs.Model.Schedule.{idle, busy}
@@ -12,19 +12,8 @@ use Rattle.sheet.specs.declared.Sheet.{Sheet}
 use Rattle.sheet.specs.Calls.{judge_of}
 use Rattle.sheet.specs.Tasks.{tasks_of}
 use Rattle.schedule.specs.declared.answer.Totals.{Totals}
-use Rattle.schedule.specs.declared.answer.Responses.{Responses}
-use Rattle.schedule.specs.declared.answer.Responses.TheVariants.{No}
 use Rattle.schedule.specs.declared.answer.Size.{Size}
-use Rattle.schedule.specs.declared.answer.Sizes.{Sizes}
-use Rattle.schedule.specs.declared.answer.Sizes.TheVariants.{No as NoSize}
-use Rattle.schedule.specs.Calls.{most_ticks, most_jobs, late_greatest, sizes_of, responses_of, greatest_after, told_size, told_totals, sizes_refusal, responses_refusal}
-
--- "a refusal met on the way is handed up unchanged": what is handed up is the refusal that the answer holds.
-pub sizes_no : {z : Sizes} {r q : Refusal} {x : Answer Size} → told_size z ≡ x → z ≡ NoSize r → q ≡ sizes_refusal z → x ≡ refusal q
-sizes_no e q h = sym e ∙ ap told_size q ∙ ap refusal (sym (h ∙ ap sizes_refusal q))
-
-pub responses_no : {a : Responses} {r q : Refusal} {x : Answer Totals} → told_totals a ≡ x → a ≡ No r → q ≡ responses_refusal a → x ≡ refusal q
-responses_no e q h = sym e ∙ ap told_totals q ∙ ap refusal (sym (h ∙ ap responses_refusal q))
+use Rattle.schedule.specs.Calls.{most_ticks, most_jobs, late_greatest, sizes_of, responses_of, task_responses_of, table_after, greatest_after, with_greatest}
 
 -- H and J
 
@@ -89,6 +78,24 @@ module _ (s : Sheet) (room : ℕ) {size : Size} (fits : sizes_of s ≡ given siz
   responses_full l e = rw (fits, le-ltb room size.jobs l, e)
 
 -- ---- the greatest responses
+
+module _ (s : Sheet) (room : ℕ) where
+  pub task_responses_refused : (r : Refusal) → responses_of s room ≡ refusal r → task_responses_of s room ≡ refusal r
+  unfolding task_responses_of
+  task_responses_refused r e = rw e
+
+  pub task_responses_full : {totals : Totals} → responses_of s room ≡ given totals → task_responses_of s room ≡ given (with_greatest s totals)
+  unfolding task_responses_of
+  task_responses_full e = rw e
+
+  -- They change nothing in the table.
+  pub task_table : (old : List ℕ) → table_after (responses_of s room) (tasks_of s) old ≡ table_after (task_responses_of s room) (tasks_of s) old
+  unfolding task_responses_of
+  task_table old = go (responses_of s room)
+    where
+      go : (a : Answer Totals) → table_after a (tasks_of s) old ≡ table_after (after a (λ totals. given (with_greatest s totals))) (tasks_of s) old
+      go (given totals) = refl
+      go (refused number values) = refl
 
 -- A refusal leaves zeros,
 pub greatest_none : {A : Type 0} {a : Answer A} (r : Refusal) (s : Sheet) → a ≡ refusal r → replicate 16 0 ≡ greatest_after a s

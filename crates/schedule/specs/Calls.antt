@@ -7,18 +7,13 @@ use Rattle.theory.specs.Model.Schedule.{rank, need, release, Slot, done}
 use Rattle.theory.specs.Model.Greatest.{greatest}
 use Rattle.theory.specs.Model.Responses.{full, full_budget, response, hyperperiod, jobs, all_jobs, idle_ticks, task_response}
 use Rattle.sheet.specs.declared.Sheet.{Sheet}
-use Rattle.answers.specs.declared.Refusal.{Refusal}
-use Rattle.answers.specs.declared.Refusal.TheVariants.{Number}
-use Rattle.answers.specs.Answers.{Answer, given, refused, when, after, also, refusal}
+use Rattle.answers.specs.Answers.{Answer, given, refused, when, after, also}
 use Rattle.sheet.specs.Calls.{places, judge_of}
 use Rattle.sheet.specs.Tasks.{tasks_of}
 use Rattle.sheet.specs.Lateness.{lateness}
 use Rattle.schedule.specs.declared.answer.Totals.{Totals}
-use Rattle.schedule.specs.declared.answer.Responses.{Responses}
-use Rattle.schedule.specs.declared.answer.Responses.TheVariants.{Table, No}
+use Rattle.schedule.specs.declared.answer.TaskResponses.{TaskResponses}
 use Rattle.schedule.specs.declared.answer.Size.{Size}
-use Rattle.schedule.specs.declared.answer.Sizes.{Sizes}
-use Rattle.schedule.specs.declared.answer.Sizes.TheVariants.{Of, No as NoSize}
 
 -- Whether job k of task i is "unfinished at its task's next release" "in the full-budget schedule".
 abbrev pub late : List Task → ℕ → ℕ → Bool
@@ -74,20 +69,10 @@ abbrev pub greatest_after : {A : Type 0} → Answer A → Sheet → List ℕ
 greatest_after (given x) s = places 16 0 s.count (task_response (tasks_of s))
 greatest_after (refused number values) s = places 16 0 0 (task_response (tasks_of s))
 
--- Document 01's answer for each case of the code's enums.
-abbrev pub told_totals : Responses → Answer Totals
-told_totals (Table totals) = given totals
-told_totals (No r) = refusal r
+-- The totals with R of each task,
+abbrev pub with_greatest : Sheet → Totals → TaskResponses
+with_greatest s totals = record { totals = totals; greatest = greatest_after (given totals) s }
 
-abbrev pub told_size : Sizes → Answer Size
-told_size (Of size) = given size
-told_size (NoSize r) = refusal r
-
--- The refusal in an answer. Number 0, which no refusal has, stands for none.
-abbrev pub sizes_refusal : Sizes → Refusal
-sizes_refusal (Of size) = Number 0
-sizes_refusal (NoSize r) = r
-
-abbrev pub responses_refusal : Responses → Refusal
-responses_refusal (Table totals) = Number 0
-responses_refusal (No r) = r
+-- and the answer for a table of `room` entries with it.
+unfoldable pub task_responses_of : Sheet → ℕ → Answer TaskResponses
+task_responses_of s room = after (responses_of s room) λ totals. given (with_greatest s totals)

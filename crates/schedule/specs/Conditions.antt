@@ -1,5 +1,5 @@
 -- What the functions under the call promise each other.
-use Rattle.std.specs.Prelude.{◌≡◌, List, true, false, cond, ℕ, suc, ◌+◌, ◌-◌, ◌*◌, ◌%◌, ◌≤◌, ◌<◌, eqb, length, get_or, take, drop}
+use Rattle.std.specs.Prelude.{◌≡◌, List, true, false, cond, ℕ, suc, ◌+◌, ◌-◌, ◌*◌, ◌%◌, ◌≤◌, ◌<◌, eqb, length, get_or, take, drop, Option, Some, None, Result, Ok, Err}
 use Rattle.arith.specs.Whole.{up}
 use Rattle.theory.specs.declared.Task.{Task}
 use Rattle.arith.specs.Ranges.{sum}
@@ -9,25 +9,15 @@ use Rattle.theory.specs.Analysis.Level.{level}
 use Rattle.theory.specs.Analysis.Backlog.{load, drain}
 use Rattle.theory.specs.Analysis.Finish.{FirstZero}
 use Rattle.sheet.specs.declared.Sheet.{Sheet}
-use Rattle.answers.specs.declared.Refusal.{Refusal}
-use Rattle.answers.specs.declared.Refusal.TheVariants.{Number, With}
 use Rattle.sheet.specs.Tasks.{tasks_of}
 use Rattle.schedule.specs.declared.answer.Turn.{Turn}
-use Rattle.schedule.specs.declared.answer.Row.{Row}
-use Rattle.schedule.specs.declared.answer.Row.TheVariants.{Rests, Late as LateRow}
-use Rattle.schedule.specs.declared.answer.Found.{Found}
-use Rattle.schedule.specs.declared.answer.Found.TheVariants.{Lowest, Late as LateFound}
+use Rattle.schedule.specs.declared.answer.Lowest.{Lowest}
 use Rattle.schedule.specs.Calls.{most_ticks, late_task, late_greatest, row, rows}
 
 -- h is the hyperperiod, within document 01's limit.
 pub record Period (s : Sheet) (h : ℕ) : Type 0 where
   pub is_hyperperiod : h ≡ hyperperiod (tasks_of s)
   pub within_limit : h ≤ most_ticks
-
--- The refusal of a sheet with a late task.
-abbrev pub late_of : Found → Refusal
-late_of (Lowest low rests) = Number 0
-late_of (LateFound i) = With 15 i
 
 -- ---- work that comes in
 
@@ -119,18 +109,19 @@ pub record Walk (a : ℕ → ℕ) (T h n : ℕ) : Type 0 where
   pub own : (k : ℕ) → 0 < a (k * T)
   pub bounded : (t : ℕ) → t ≤ h → t + drain a t + a t ≤ most_clear
 
-abbrev pub Walked : (ℕ → ℕ) → ℕ → ℕ → List ℕ → Row → Type 0
-Walked a T h xs (Rests rests) = ((k : ℕ) → k < length xs → Cleared a T k (get_or xs k 0)) × (rests ≡ rests_to a h)
-Walked a T h xs LateRow = (k : ℕ) × (k < length xs) × Blocked a T k
+-- What it tells: the ticks at rest, with each job's ticks in its entry, or none where a job is not done.
+abbrev pub Walked : (ℕ → ℕ) → ℕ → ℕ → List ℕ → Option ℕ → Type 0
+Walked a T h xs (Some rests) = ((k : ℕ) → k < length xs → Cleared a T k (get_or xs k 0)) × (rests ≡ rests_to a h)
+Walked a T h xs None = (k : ℕ) × (k < length xs) × Blocked a T k
 
 -- ---- the rows of a sheet
 
 -- Whether task i is late; where it is not, the ticks in which its level rests.
-abbrev pub Noted : List Task → ℕ → Row → Type 0
-Noted ts i (Rests rests) = (late_task ts i ≡ false) × (rests ≡ rests_to (load ts (full ts) i) (hyperperiod ts))
-Noted ts i LateRow = late_task ts i ≡ true
+abbrev pub Noted : List Task → ℕ → Option ℕ → Type 0
+Noted ts i (Some rests) = (late_task ts i ≡ false) × (rests ≡ rests_to (load ts (full ts) i) (hyperperiod ts))
+Noted ts i None = late_task ts i ≡ true
 
-pub record RowFilled (ts : List Task) (i : ℕ) (xs : List ℕ) (r : Row) : Type 0 where
+pub record RowFilled (ts : List Task) (i : ℕ) (xs : List ℕ) (r : Option ℕ) : Type 0 where
   pub noted : Noted ts i r
   pub filled : late_task ts i ≡ false → xs ≡ row ts i
 
@@ -145,12 +136,12 @@ pub record LateTo (ts : List Task) (n i : ℕ) : Type 0 where
   pub is_greatest : late_greatest ts n ≡ busy i
   pub known : i < n
 
-abbrev pub FoundTo : List Task → ℕ → Found → Type 0
-FoundTo ts n (Lowest low rests) = LowestTo ts n low rests
-FoundTo ts n (LateFound i) = LateTo ts n i
+abbrev pub FoundTo : List Task → ℕ → Result Lowest ℕ → Type 0
+FoundTo ts n (Ok lowest) = LowestTo ts n lowest.task lowest.rests
+FoundTo ts n (Err i) = LateTo ts n i
 
 -- The table once the rows of the first n tasks are walked, which end at `end`: they stand there unless a task is late.
-pub record Filled (ts : List Task) (n end : ℕ) (old table : List ℕ) (found : Found) : Type 0 where
+pub record Filled (ts : List Task) (n end : ℕ) (old table : List ℕ) (found : Result Lowest ℕ) : Type 0 where
   pub told : FoundTo ts n found
   pub same_length : length table ≡ length old
   pub untouched : drop end table ≡ drop end old

@@ -6,21 +6,20 @@
 
 mod answer;
 
-ghost use Rattle.std.specs.Prelude.{◌≡◌, ◌++◌, suc, ◌≤◌, ◌<◌, length, drop, replicate};
-ghost use Rattle.arith.specs.Limit.{told, within};
+ghost use Rattle.std.specs.Prelude.{◌≡◌, suc, ◌≤◌, ◌<◌, length};
+ghost use Rattle.arith.specs.Limit.{within};
 ghost use Rattle.theory.specs.Model.Responses.{hyperperiod, jobs, all_jobs, task_response};
 ghost use Rattle.sheet.specs.Calls.{places};
 ghost use Rattle.sheet.specs.Sound.{Sound};
 ghost use Rattle.sheet.specs.Tasks.{tasks_of};
 ghost use Rattle.schedule.specs.Calls.{most_ticks};
-ghost use Rattle.schedule.specs.Promises.{SizesPromise, SizesRefusalPromise, ResponsesPromise, ResponsesRefusalPromise, TaskResponsesPromise};
-ghost use Rattle.schedule.specs.Conditions.{Period, late_of, coming, PlaceOf, Level, Ready, Turned, Walk, Walked, Places, RowFilled, Noted, FoundTo, Filled};
+ghost use Rattle.schedule.specs.Promises.{SizesPromise, ResponsesPromise, TaskResponsesPromise};
+ghost use Rattle.schedule.specs.Conditions.{Period, coming, PlaceOf, Level, Ready, Turned, Walk, Walked, Places, RowFilled, Noted, FoundTo, Filled};
 ghost use Rattle.schedule.specs.Taken.{Holds};
 
-use answer::{Found, Row, Turn};
-pub use answer::{Responses, Size, Sizes, TaskResponses, Totals};
-use answers::{Refusal, Verdict};
-use arith::Multiple;
+use answer::{Lowest, Turn};
+pub use answer::{Size, TaskResponses, Totals};
+use answers::Refusal;
 use sheet::Sheet;
 use theory::Task;
 
@@ -29,22 +28,18 @@ const MOST_TICKS: u32 = 1000000;
 
 const MOST_JOBS: u32 = 8192;
 
-// The hyperperiod: the least common multiple of all periods, or that it is over its limit.
-fn hyperperiod(s: Sheet) -> Multiple
+// The hyperperiod, the least common multiple of all periods; none where it is over its limit.
+fn hyperperiod(s: Sheet) -> Option<u32>
     requires { Sound s }
-    ensures { told result ≡ within most_ticks (hyperperiod (tasks_of s)) }
+    ensures { result ≡ within most_ticks (hyperperiod (tasks_of s)) }
 {
     let mut multiple = 1u32;
     let mut i = s.count as usize;
     while 0 < i {
         i -= 1;
-        let m = arith::lcm(s.tasks[i].period, multiple, MOST_TICKS);
-        let Multiple::Is(next) = m else {
-            return Multiple::Over;
-        };
-        multiple = next;
+        multiple = arith::lcm(s.tasks[i].period, multiple, MOST_TICKS)?;
     }
-    Multiple::Is(multiple)
+    Some(multiple)
 }
 
 // The jobs of all tasks before tick h, the hyperperiod.
@@ -64,22 +59,18 @@ fn job_count(s: Sheet, h: u32) -> u32
 }
 
 // H and J, for a sheet that is judged fine and keeps their limits.
-pub fn sizes(s: Sheet) -> Sizes
+pub fn sizes(s: Sheet) -> Result<Size, Refusal>
     ensures { SizesPromise s result }
 {
-    let v = sheet::judge(s);
-    let Verdict::Fine = v else {
-        return Sizes::No(answers::refusal_of(v));
-    };
-    let m = hyperperiod(s);
-    let Multiple::Is(h) = m else {
-        return Sizes::No(Refusal::Number(10));
+    sheet::judge(s)?;
+    let Some(h) = hyperperiod(s) else {
+        return Err(Refusal::Hyperperiod);
     };
     let jobs = job_count(s, h);
     if MOST_JOBS < jobs {
-        return Sizes::No(Refusal::Number(11));
+        return Err(Refusal::Jobs);
     }
-    Sizes::Of(Size {
+    Ok(Size {
         hyperperiod: h,
         jobs,
     })
@@ -170,6 +161,7 @@ fn turn(
 
 // Fills the row of a task with the responses of its jobs, by a walk over the releases of its level up to `h`: the level's work is
 // done by tick `clear`, and where that is before the next release a job of the task is done with it, and the gap ends at rest.
+// Answers the ticks in which the level rests; none where the task is late.
 fn walk_row(
     periods: &[u32; 16],
     budgets: &[u32; 16],
@@ -177,7 +169,7 @@ fn walk_row(
     own: Task,
     h: u32,
     row: &mut [u32],
-) -> Row
+) -> Option<u32>
     requires places_fit { Places periods.now budgets.now size }
     requires walk_fits { Walk (coming own periods.now budgets.now size) own.period h (length row.old) }
     ensures { Walked (coming own periods.now budgets.now size) own.period h row.new result }
@@ -195,7 +187,7 @@ fn walk_row(
         clear = now.clear;
         if now.soon < clear {
             if release + own.period <= now.soon {
-                return Row::Late;
+                return None;
             }
         } else {
             if release <= at {
@@ -208,11 +200,11 @@ fn walk_row(
         }
         at = now.soon;
     }
-    Row::Rests(rests)
+    Some(rests)
 }
 
 // Fills the row of task i, from the numbers of its level.
-fn fill_row(s: Sheet, i: usize, h: u32, row: &mut [u32]) -> Row
+fn fill_row(s: Sheet, i: usize, h: u32, row: &mut [u32]) -> Option<u32>
     requires sound { Sound s }
     requires period_of_sheet { Period s h }
     requires row_length { (i < s.count) × (length row.old ≡ jobs (tasks_of s) i) }
@@ -224,8 +216,9 @@ fn fill_row(s: Sheet, i: usize, h: u32, row: &mut [u32]) -> Row
     walk_row(&periods, &budgets, size, s.tasks[i], h, &mut *row)
 }
 
-// What the rows tell up to that of task i, from what those before it and its own tell.
-fn noted(s: Sheet, found: Found, i: usize, row: Row) -> Found
+// What the rows tell up to that of task i, from what those before it and its own tell: the lowest-ranked task, or that one is late,
+// the greatest-ranked one that is.
+fn noted(s: Sheet, found: Result<Lowest, u8>, i: usize, row: Option<u32>) -> Result<Lowest, u8>
     requires sound { Sound s }
     requires task_known { i < s.count }
     requires found_before { FoundTo (tasks_of s) i found }
@@ -233,39 +226,36 @@ fn noted(s: Sheet, found: Found, i: usize, row: Row) -> Found
     ensures { FoundTo (tasks_of s) (suc i) result }
 {
     let index = i as u8;
-    match row {
-        Row::Late => match found {
-            Found::Late(worst) => {
-                if s.tasks[worst as usize].rank < s.tasks[i].rank {
-                    Found::Late(index)
-                } else {
-                    found
-                }
+    let rank = s.tasks[i].rank;
+    match (found, row) {
+        (Err(late), Some(_)) => Err(late),
+        (Err(late), None) => {
+            if s.tasks[late as usize].rank < rank {
+                Err(index)
+            } else {
+                Err(late)
             }
-            Found::Lowest(_, _) => Found::Late(index),
-        },
-        Row::Rests(rests) => match found {
-            Found::Late(_) => found,
-            Found::Lowest(low, _) => {
-                if s.tasks[i].rank <= s.tasks[low as usize].rank {
-                    Found::Lowest(index, rests)
-                } else {
-                    found
-                }
+        }
+        (Ok(_), None) => Err(index),
+        (Ok(lowest), Some(rests)) => {
+            if rank <= s.tasks[lowest.task as usize].rank {
+                Ok(Lowest { task: index, rests })
+            } else {
+                Ok(lowest)
             }
-        },
+        }
     }
 }
 
 // Fills the table row by row, each in its own part of the table.
-fn fill_rows(s: Sheet, h: u32, table: &mut [u32]) -> Found
+fn fill_rows(s: Sheet, h: u32, table: &mut [u32]) -> Result<Lowest, u8>
     requires sound { Sound s }
     requires period_of_sheet { Period s h }
     requires room { all_jobs (tasks_of s) ≤ length table.old }
     ensures { Filled (tasks_of s) s.count (all_jobs (tasks_of s)) table.old table.new result }
 {
     let n = s.count as usize;
-    let mut found = Found::Lowest(0, 0);
+    let mut found = Ok(Lowest { task: 0, rests: 0 });
     let mut from = 0usize;
     let mut i = 0usize;
     while i < n {
@@ -278,76 +268,26 @@ fn fill_rows(s: Sheet, h: u32, table: &mut [u32]) -> Found
     found
 }
 
-// Zeros in the first n entries.
-fn clear(table: &mut [u32], n: usize)
-    requires { n ≤ length table.old }
-    ensures { table.new ≡ replicate n 0 ++ drop n table.old }
-{
-    let mut k = 0usize;
-    while k < n {
-        table[k] = 0;
-        k += 1;
-    }
-}
-
-// The refusal in an answer that gives no sizes. Number 0, which no refusal has, stands for none.
-pub fn sizes_refusal(z: Sizes) -> Refusal
-    ensures { SizesRefusalPromise z result }
-{
-    let Sizes::No(r) = z else {
-        return Refusal::Number(0);
-    };
-    r
-}
-
-fn wide(x: u8) -> u32
-    ensures { result ≡ x }
-{
-    x as u32
-}
-
-// The refusal of a sheet with a late task.
-fn found_refusal(f: Found) -> Refusal
-    ensures { result ≡ late_of f }
-{
-    let Found::Late(i) = f else {
-        return Refusal::Number(0);
-    };
-    Refusal::With(15, wide(i))
-}
-
 // The response of each job before H, "task by task in sheet order, each task's jobs in release order", with H, J and the idle ticks.
-pub fn responses(s: Sheet, table: &mut [u32]) -> Responses
+pub fn responses(s: Sheet, table: &mut [u32]) -> Result<Totals, Refusal>
     ensures { ResponsesPromise s table.old result table.new }
 {
-    let z = sizes(s);
-    let Sizes::Of(size) = z else {
-        return Responses::No(sizes_refusal(z));
-    };
+    let size = sizes(s)?;
     let jobs = size.jobs as usize;
     if table.len() < jobs {
-        return Responses::No(Refusal::Number(14));
+        return Err(Refusal::Room);
     }
-    let found = fill_rows(s, size.hyperperiod, &mut *table);
-    let Found::Lowest(_, idle) = found else {
-        clear(&mut *table, jobs);
-        return Responses::No(found_refusal(found));
-    };
-    Responses::Table(Totals {
-        hyperperiod: size.hyperperiod,
-        jobs: size.jobs,
-        idle,
-    })
-}
-
-// The refusal in an answer that gives no table; number 0 for none.
-pub fn responses_refusal(a: Responses) -> Refusal
-    ensures { ResponsesRefusalPromise a result }
-{
-    let Responses::No(r) = a else {
-        return Refusal::Number(0);
-    };
-    r
+    match fill_rows(s, size.hyperperiod, &mut *table) {
+        Err(task) => {
+            table[..jobs].fill(0);
+            Err(Refusal::Late(task))
+        }
+        Ok(lowest) => Ok(Totals {
+            hyperperiod: size.hyperperiod,
+            jobs: size.jobs,
+            idle: lowest.rests,
+        }),
+    }
 }
 
 // R of each task, in sixteen places, from the rows of a table.
@@ -370,17 +310,11 @@ fn greatest_each(s: Sheet, h: u32, table: &[u32]) -> [u32; 16]
     each
 }
 
-// The job table as `responses` answers and leaves it, with "R, the greatest response" of each task in its place; zeros where it is refused.
-pub fn task_responses(s: Sheet, table: &mut [u32]) -> TaskResponses
+// The job table as `responses` answers and leaves it, with "R, the greatest response" of each task in its place.
+pub fn task_responses(s: Sheet, table: &mut [u32]) -> Result<TaskResponses, Refusal>
     ensures { TaskResponsesPromise s table.old result table.new }
 {
-    let answer = responses(s, &mut *table);
-    let Responses::Table(totals) = answer else {
-        return TaskResponses {
-            answer,
-            greatest: [0u32; 16],
-        };
-    };
+    let totals = responses(s, &mut *table)?;
     let greatest = greatest_each(s, totals.hyperperiod, table);
-    TaskResponses { answer, greatest }
+    Ok(TaskResponses { totals, greatest })
 }

@@ -9,13 +9,12 @@ use contract.Lifetimes.{Lfts}
 use contract.Monad.{Fun, fact}
 use denote.Triple.Clauses.{AtExit}
 use denote.Triple.Entry.{Args, Res}
-use Rattle.telltale.specs.Promises.{FreshPromise, BeginPromise, StampPromise, ElapsedRefusalPromise}
+use Rattle.telltale.specs.Promises.{FreshPromise, BeginPromise, StampPromise}
 use Rattle.telltale.proofs.fresh.Reads as fresh
 use Rattle.telltale.specs.contracts.begin as begin
 use Rattle.telltale.specs.contracts.stamp as stamp
 use Rattle.telltale.proofs.after_begin.Reads as after_begin
 use Rattle.telltale.proofs.after_stamp.Reads as after_stamp
-use Rattle.telltale.proofs.elapsed_refusal.Reads as elapsed_refusal
 
 fresh_promised : fresh.Learnt ≡ (λ κs a r e. FreshPromise r)
 fresh_promised = refl
@@ -25,9 +24,6 @@ after_begin_promised = refl
 
 after_stamp_promised : after_stamp.Learnt ≡ (λ κs a r e. StampPromise a.0 a.1.0 r.answer r.left)
 after_stamp_promised = refl
-
-elapsed_refusal_promised : elapsed_refusal.Learnt ≡ (λ κs a r e. ElapsedRefusalPromise a.0 r)
-elapsed_refusal_promised = refl
 
 -- Of a call that is lent a struct no plain reading is made; its clause itself is the predicate.
 module _ {M : Type 1} {𝓤 : Ura M} (𝓛 : Logic 𝓤) (at_mem : Memory → SProp 𝓤) (run : Routine → Fun 𝓤) (κs : Lfts 1) where

@@ -1,11 +1,7 @@
 -- What each call answers, and the record that it leaves. Quotations are from document 02, P13.
 use Rattle.std.specs.Prelude.{ℕ, ◌+◌, ◌-◌, ◌%◌, ◌^◌, min, max, Bool, true, false, cond, nat_le}
-use Rattle.answers.specs.declared.Refusal.{Refusal}
-use Rattle.answers.specs.declared.Refusal.TheVariants.{Number}
-use Rattle.answers.specs.Answers.{Answer, given, refused, when, also, refusal}
+use Rattle.answers.specs.Answers.{Answer, given, refused, when, also}
 use Rattle.telltale.specs.declared.Record.{Record}
-use Rattle.telltale.specs.declared.Elapsed.{Elapsed}
-use Rattle.telltale.specs.declared.Elapsed.TheVariants.{Ticks, No}
 
 -- "A fresh record has none under way and zeros"
 abbrev pub fresh : Record
@@ -35,13 +31,3 @@ stamp_of r counter =
 abbrev pub record_after : Answer ℕ → Record → Record
 record_after (given ticks) r = record { underway = false; counter = 0; longest = max r.longest ticks; count = min (r.count + 1) 65535 }
 record_after (refused number values) r = r
-
--- The answer for each case of the code's enum,
-abbrev pub told_elapsed : Elapsed → Answer ℕ
-told_elapsed (Ticks ticks) = given ticks
-told_elapsed (No r) = refusal r
-
--- and the refusal in it. Number 0, which no refusal has, stands for none.
-abbrev pub elapsed_refusal : Elapsed → Refusal
-elapsed_refusal (Ticks ticks) = Number 0
-elapsed_refusal (No r) = r

@@ -1,24 +1,30 @@
 -- The quick bound along a chain of a sheet's tasks, pair by pair.
-use Rattle.std.specs.Prelude.{◌≡◌, List, ◌∷◌, cond, ℕ, ◌+◌, ◌-◌, ◌≤◌, ◌<◌, ltb, length}
+use Rattle.std.specs.Prelude.{◌≡◌, List, ◌∷◌, ℕ, zero, suc, ◌+◌, ◌-◌, ◌≤◌, ◌<◌, length}
 use Rattle.std.proofs.Math.Path.{refl, ap}
 use Rattle.std.proofs.Common.{sym, ap₂, ◌∙◌, add-one, drop_of_length-le, drop-cons}
 use native.Mathlib.Omega.{arith}
-use Rattle.std.proofs.Math.ListN.{get_or, drop, length-drop}
-use Rattle.arith.specs.Whole.{gcd, up}
-use Rattle.arith.specs.WholeLaws.{up_near}
-use Rattle.theory.specs.declared.Task.{Task}
+use Rattle.std.proofs.Math.ListN.{get_or, drop, length-drop, take, length-take}
+use Rattle.std.proofs.lemmas.Grind.{get_or_after_one}
+use Rattle.std.proofs.lemmas.List.{get_or-take}
+use Rattle.arith.specs.Whole.{up}
+use Rattle.arith.specs.WholeLaws.{up_near, up_zero}
 use Rattle.theory.specs.Model.Schedule.{none, period}
 use Rattle.theory.specs.Model.Chain.{outranked, bound, walk_bound}
 use Rattle.theory.specs.Model.Recurrence.{quick_response}
 use Rattle.theory.specs.Analysis.Largest.{SmallTask}
-use Rattle.theory.proofs.Analysis.Largest.{common_most, along_chain, bound_most}
+use Rattle.theory.proofs.Analysis.Largest.{along_chain, bound_most}
 use Rattle.answers.specs.Answers.{fine}
 use Rattle.sheet.specs.declared.Sheet.{Sheet}
 use Rattle.sheet.specs.Sound.{Sound}
 use Rattle.sheet.specs.Tasks.{tasks_of, lacks, chain_at, chain_of, first_of, rest_of}
-use Rattle.sheet.specs.TaskLaws.{tasks_length, task_at_lem, period_at, place_allowed, task_allowed, chain_place, chain_most, entry_listed, chain_known}
-use Rattle.recurrence.specs.Calls.{bound_by}
+use Rattle.sheet.specs.TaskLaws.{tasks_length, task_at_lem, task_allowed, chain_place, chain_most, entry_listed, chain_known}
+use Rattle.recurrence.specs.Calls.{pair_added, bound_by}
 use Rattle.recurrence.specs.Conditions.{most_period, most_bound, Responding, ChainOn, pair_of}
+
+-- The least multiple is less than one after it.
+pub up_most : (T x : ℕ) → up T x ≤ x + T
+up_most zero x = omega (arith, up_zero x)
+up_most (suc t) x = omega (arith, up_near (suc t) x (omega arith))
 
 -- What is left of the bound at entry j of the chain.
 unfoldable pub bound_from : Sheet → List ℕ → ℕ → ℕ
@@ -73,22 +79,42 @@ module _ {s : Sheet} (ok : Sound s) {responses : List ℕ} (responding : Respond
     on.few,
   )
 
-  -- A pair, by the numbers in its places, and how large these are.
-  module _ (p c : ℕ) (kp : p < s.count) (kc : c < s.count) where
-    abbrev T : ℕ → ℕ
-    T i = (get_or s.tasks i none).period
+  -- A pair, by the tasks in its places.
+  pair_is : (p c : ℕ) → p < s.count → c < s.count → pair_added (get_or s.tasks p none) (get_or s.tasks c none) (get_or responses p 0) ≡ pair_of s p c
+  pair_is p c kp kc =
+      ap₂ (λ x y. pair_added x y (get_or responses p 0)) (sym (task_at_lem _ ok p kp)) (sym (task_at_lem _ ok c kc))
+      ∙ ap (pair_added (get_or (tasks_of s) p none) (get_or (tasks_of s) c none)) (responding.response_is p kp)
 
-    abbrev g : ℕ
-    g = gcd (T p) (T c)
+  -- A pair is taken from what is left, so the sum stays small.
+  pub pair_taken : {chain : List ℕ} → ChainOn s chain → (j : ℕ) → j + 1 < length chain → {p c : ℕ} (ticks : ℕ) {added : ℕ}
+      → p ≡ get_or chain j 0 → c ≡ get_or chain (j + 1) 0 → ticks + bound_from s chain j ≡ bound_by (tasks_of s) chain
+      → added ≡ pair_added (get_or s.tasks p none) (get_or s.tasks c none) (get_or responses p 0)
+      → (ticks + added + bound_from s chain (j + 1) ≡ bound_by (tasks_of s) chain) × (ticks + added ≤ most_bound)
+  pair_taken {chain} on j l {p} {c} ticks {added} at next e is = (sum, omega (arith, sum, bound_small on))
+    where
+      pair : added ≡ pair_of s (get_or chain j 0) (get_or chain (j + 1) 0)
+      pair =
+          is ∙ ap₂ (λ p c. pair_added (get_or s.tasks p none) (get_or s.tasks c none) (get_or responses p 0)) at next
+          ∙ pair_is (get_or chain j 0) (get_or chain (j + 1) 0) (on.entry_below j (omega arith)) (on.entry_below (j + 1) l)
 
-    pub pair_at : pair_of s p c ≡ (T c - g) + cond (ltb (get_or s.tasks p none).rank (get_or s.tasks c none).rank) (up g (get_or responses p 0)) 0
-    pair_at =
-        ap₂ (λ (x y : Task). (y.period - gcd x.period y.period) + cond (ltb x.rank y.rank) (up (gcd x.period y.period) (quick_response (tasks_of s) p)) 0)
-        (task_at_lem _ ok p kp) (task_at_lem _ ok c kc)
-        ∙ ap (λ r. (T c - g) + cond (ltb (get_or s.tasks p none).rank (get_or s.tasks c none).rank) (up g r) 0) (sym (responding.response_is p kp))
+      sum : ticks + added + bound_from s chain (j + 1) ≡ bound_by (tasks_of s) chain
+      sum = omega (arith, e, pair, bound_turn s chain j l)
 
-    pub pair_near : (g ≤ T c) × (up g (get_or responses p 0) ≤ T c + most_period) × (T c ≤ most_period)
-    pair_near =
-        let both = common_most (period (tasks_of s)) p c (small p kp).period_positive (small c kc).period_positive in
-        let most = rw (period_at _ ok p kp, period_at _ ok c kc) at both in
-        (most.1, omega (arith, most, up_near g (get_or responses p 0) most.0, responding.response_is p kp, (small p kp).response_most), (place_allowed _ ok c kc).period_most)
+  -- What is left at the end is the last task's response.
+  pub pairs_taken : {chain : List ℕ} → ChainOn s chain → (j : ℕ) {p : ℕ} (ticks : ℕ) → j + 1 ≡ length chain → p ≡ get_or chain j 0
+      → ticks + bound_from s chain j ≡ bound_by (tasks_of s) chain
+      → (ticks + get_or responses p 0 ≡ bound_by (tasks_of s) chain) × (ticks + get_or responses p 0 ≤ most_bound)
+  pairs_taken {chain} on j {p} ticks all at e =
+      let last = ap (λ p. get_or responses p 0) at ∙ responding.response_is (get_or chain j 0) (on.entry_below j (omega arith)) in
+      let sum : ticks + get_or responses p 0 ≡ bound_by (tasks_of s) chain = omega (arith, e, last, bound_last s chain j all) in
+      (sum, omega (arith, sum, bound_small on))
+
+-- The entries that follow the first.
+pub entry_is : (chain : List ℕ) (j : ℕ) → j < length (take (length chain - 1) (drop 1 chain))
+    → (j + 1 < length chain) × (get_or (take (length chain - 1) (drop 1 chain)) j 0 ≡ get_or chain (j + 1) 0)
+entry_is chain j l = (
+  omega (arith, length-take (length chain - 1) (drop 1 chain), length-drop 1 chain),
+  get_or-take (length chain - 1) (drop 1 chain) j 0 (omega (arith, length-take (length chain - 1) (drop 1 chain)))
+      ∙ get_or_after_one chain j 0
+      ∙ ap (λ i. get_or chain i 0) {x = 1 + j} {y = j + 1} (omega arith),
+)

@@ -1,5 +1,5 @@
 -- The answer case by case, and the task that 15 names.
-use Rattle.std.specs.Prelude.{◌≡◌, List, [], ◌∷◌, Bool, true, false, ℕ, zero, suc, ◌+◌, ◌≤◌, ◌<◌, length, get_or}
+use Rattle.std.specs.Prelude.{◌≡◌, List, [], ◌∷◌, Bool, true, false, ℕ, ◌+◌, ◌≤◌, ◌<◌, ltb, length, get_or, Option, Some, None}
 use Rattle.std.proofs.Math.Path.{refl, ap, ap₂}
 use Rattle.std.proofs.Common.{sym, ◌∙◌, subst, add-one, arith, lt-ltb, le-ltb, ltb-false}
 use Rattle.std.proofs.Math.Bool.{cond}
@@ -10,16 +10,19 @@ use Rattle.theory.specs.Model.Recurrence.{quick_response}
 use Rattle.theory.specs.Analysis.GreatestLaws.{IsGreatest}
 use Rattle.theory.proofs.Analysis.GreatestLaws.{greatest_is}
 use Rattle.answers.specs.declared.Refusal.{Refusal}
-use Rattle.answers.specs.Answers.{given, refused, Judgement, fine, also, refusal}
-use Rattle.answers.specs.AnswerLaws.{also_given}
+use Rattle.answers.specs.Answers.{given, refused, Judgement, fine, after, also, refusal}
+use Rattle.answers.specs.AnswerLaws.{after_given, also_given}
 use Rattle.sheet.specs.declared.Sheet.{Sheet}
 use Rattle.sheet.specs.Calls.{judge_of}
 use Rattle.sheet.specs.PlaceLaws.{places_taken}
 use Rattle.sheet.specs.Sound.{Sound}
-use Rattle.sheet.specs.Tasks.{tasks_of, lacks, chain_of}
+use Rattle.sheet.specs.Tasks.{tasks_of, chain_count, lacks, chain_of}
 use Rattle.sheet.specs.Lateness.{lateness}
 use Rattle.sheet.specs.TaskLaws.{tasks_length, rank_at_lem, period_at}
-use Rattle.recurrence.specs.Calls.{passes, passing_greatest, bounds_of, quick_of, suite_of, responses_in, no_responses, responses_after}
+use Rattle.recurrence.specs.declared.answer.Bounds.{Bounds}
+use Rattle.recurrence.specs.declared.answer.QuickBound.{QuickBound}
+use Rattle.recurrence.specs.declared.answer.QuickSuite.{QuickSuite}
+use Rattle.recurrence.specs.Calls.{passes, passing_greatest, bounds_of, quick_of, quick_bound_of, suite_of, quick_suite_of, responses_in, bounds_to}
 use Rattle.recurrence.specs.Conditions.{Responding}
 
 -- ---- the answer
@@ -36,14 +39,18 @@ module _ (s : Sheet) (number : ℕ) where
       ap₂ (λ j k. also j (also k (also passing (given (bounds_of (tasks_of s) (chain_of s number)))))) e n
       ∙ ap (λ l. also j (also k (also l (given (bounds_of (tasks_of s) (chain_of s number)))))) q
 
-  pub quick_refused : (r : Refusal) → judge_of s ≡ refusal r → quick_of s number ≡ refusal r
-  quick_refused r e = quick_by e refl refl
+  -- A refusal is handed up,
+  refused_by : (r : Refusal) → quick_of s number ≡ refusal r → refusal r ≡ quick_bound_of s number
+  refused_by r e = sym (ap (λ a. after a (λ b. given (record { bounds = b; responses = responses_in s }))) e)
 
-  pub quick_lacking : (r : Refusal) → judge_of s ≡ fine → lacks s number ≡ refusal r → quick_of s number ≡ refusal r
-  quick_lacking r e n = quick_by e n refl
+  pub bound_refused : (r : Refusal) → judge_of s ≡ refusal r → refusal r ≡ quick_bound_of s number
+  bound_refused r e = refused_by r (quick_by e refl refl)
 
-  pub quick_passing : (r : Refusal) → judge_of s ≡ fine → lacks s number ≡ fine → passing ≡ refusal r → quick_of s number ≡ refusal r
-  quick_passing r e n q = quick_by e n q
+  pub bound_lacking : (r : Refusal) → judge_of s ≡ fine → lacks s number ≡ refusal r → refusal r ≡ quick_bound_of s number
+  bound_lacking r e n = refused_by r (quick_by e n refl)
+
+  pub bound_passing : (r : Refusal) → judge_of s ≡ fine → lacks s number ≡ fine → passing ≡ refusal r → refusal r ≡ quick_bound_of s number
+  bound_passing r e n q = refused_by r (quick_by e n q)
 
   pub quick_passing_task : {i : ℕ} → judge_of s ≡ fine → lacks s number ≡ fine → passing_greatest (tasks_of s) (length (tasks_of s)) ≡ busy i
       → quick_of s number ≡ refused 15 (i ∷ [])
@@ -52,9 +59,20 @@ module _ (s : Sheet) (number : ℕ) where
   pub quick_fits : judge_of s ≡ fine → lacks s number ≡ fine → passing ≡ fine → quick_of s number ≡ given (bounds_of (tasks_of s) (chain_of s number))
   quick_fits e n q = quick_by e n q
 
-  -- A refusal leaves zeros.
-  pub responses_none : (r : Refusal) → quick_of s number ≡ refusal r → no_responses ≡ responses_after (quick_of s number) s
-  responses_none r e = ap (λ a. responses_after a s) (sym e)
+-- and the bounds come with the responses.
+pub bound_given : (s : Sheet) (number : ℕ) {b : Bounds} {xs : List ℕ} → quick_of s number ≡ given b → xs ≡ responses_in s
+    → given (record { bounds = b; responses = xs }) ≡ quick_bound_of s number
+bound_given s number {b} e is =
+    ap (λ xs. given (record { bounds = b; responses = xs })) is ∙ sym (ap (λ a. after a (λ b. given (record { bounds = b; responses = responses_in s }))) e)
+
+pub given_bound : (s : Sheet) (number : ℕ) (q : QuickBound) → given q ≡ quick_bound_of s number → (quick_of s number ≡ given q.bounds) × (q.responses ≡ responses_in s)
+given_bound s number q e = (x.1 ∙ ap (λ q. given q.bounds) same, sym (ap (λ (q : QuickBound). q.responses) same))
+  where
+    x : (b : Bounds) × (quick_of s number ≡ given b) × (given (record { bounds = b; responses = responses_in s }) ≡ given q)
+    x = after_given (quick_of s number) (λ b. given (record { bounds = b; responses = responses_in s })) (sym e)
+
+    same : record { bounds = x.0; responses = responses_in s } ≡ q
+    same = cc x.2
 
 -- ---- of every chain
 
@@ -62,13 +80,22 @@ module _ (s : Sheet) where
   abbrev late : Judgement
   late = lateness (passing_greatest (tasks_of s) (length (tasks_of s)))
 
-  pub suite_refused : (r : Refusal) → judge_of s ≡ refusal r → suite_of s ≡ refusal r
-  unfolding suite_of
-  suite_refused r e = ap (λ j. also j late) e
+  abbrev all : QuickSuite
+  all = record { responses = responses_in s; chains = bounds_to s (chain_count s) }
 
-  pub suite_judged : judge_of s ≡ fine → suite_of s ≡ late
+  pub suite_refused : (r : Refusal) → judge_of s ≡ refusal r → refusal r ≡ quick_suite_of s
   unfolding suite_of
-  suite_judged e = ap (λ j. also j late) e
+  suite_refused r e = sym (ap (λ j. also (also j late) (given all)) e)
+
+  pub suite_late : (r : Refusal) → judge_of s ≡ fine → late ≡ refusal r → refusal r ≡ quick_suite_of s
+  unfolding suite_of
+  suite_late r e q = sym (ap₂ (λ j k. also (also j k) (given all)) e q)
+
+  pub suite_given : {xs : List ℕ} {bounds : List Bounds} → judge_of s ≡ fine → late ≡ fine → xs ≡ responses_in s → bounds ≡ bounds_to s (chain_count s)
+      → given (record { responses = xs; chains = bounds }) ≡ quick_suite_of s
+  unfolding suite_of
+  suite_given e q is are =
+      ap₂ (λ xs bounds. given (record { responses = xs; chains = bounds })) is are ∙ sym (ap₂ (λ j k. also (also j k) (given all)) e q)
 
   -- What is given of a chain that the sheet has.
   pub quick_known : (number : ℕ) → lacks s number ≡ fine → quick_of s number ≡ also (suite_of s) (given (bounds_of (tasks_of s) (chain_of s number)))
@@ -89,78 +116,66 @@ module _ (s : Sheet) where
 pub found : (ts : List Task) {x : Slot} → passing_greatest ts (length ts) ≡ x → IsGreatest (rank ts) (passes ts) (length ts) x
 found ts e = subst (IsGreatest (rank ts) (passes ts) (length ts)) e (greatest_is (rank ts) (passes ts) (length ts))
 
--- The task so far, and one more than its rank; 0 where there is none.
-abbrev pub slot_of : ℕ → ℕ → Slot
-slot_of zero found = idle
-slot_of (suc rank) found = busy found
-
-pub some_slot : (above found : ℕ) → 0 < above → slot_of above found ≡ busy found
-some_slot zero found l = absurd (omega arith)
-some_slot (suc rank) found l = refl
+-- The task so far, if there is one.
+abbrev pub slot_of : Option ℕ → Slot
+slot_of None = idle
+slot_of (Some i) = busy i
 
 -- It is the one of the first i.
-pub record FoundTo (s : Sheet) (i above found : ℕ) : Type 0 where
-  pub is_greatest : passing_greatest (tasks_of s) i ≡ slot_of above found
-  pub has_rank : 0 < above → above ≡ suc (rank (tasks_of s) found)
+abbrev pub FoundTo : Sheet → ℕ → Option ℕ → Type 0
+FoundTo s i late = passing_greatest (tasks_of s) i ≡ slot_of late
 
-pub found_start : (s : Sheet) → FoundTo s 0 0 0
-unfolding greatest
-found_start s = record { is_greatest = refl; has_rank = λ l. absurd (omega arith) }
+pub found_known : (s : Sheet) (i j : ℕ) → FoundTo s i (Some j) → j < i
+found_known s i j e = (subst (IsGreatest (rank (tasks_of s)) (passes (tasks_of s)) i) e (greatest_is (rank (tasks_of s)) (passes (tasks_of s)) i)).0
+
+-- Whether task i takes its place if it passes its period: it outranks it, or there is none.
+abbrev pub takes : Sheet → ℕ → Option ℕ → Bool
+takes s i None = true
+takes s i (Some j) = ltb (get_or s.tasks j none).rank (get_or s.tasks i none).rank
 
 module _ (s : Sheet) (ok : Sound s) {values : List ℕ} (are : values ≡ responses_in s) where
   pub response_at : (i : ℕ) → i < s.count → get_or values i 0 ≡ quick_response (tasks_of s) i
   response_at i l =
       ap (λ xs. get_or xs i 0) are ∙ places_taken 16 0 (quick_response (tasks_of s)) s.count 0 i l (omega (arith, ok.count_most))
 
-  module _ {i above found : ℕ} (l : i < s.count) (f : FoundTo s i above found) where
+  module _ (i : ℕ) (l : i < s.count) where
     abbrev ts : List Task
     ts = tasks_of s
 
-    step : (b : Bool) → passes ts i ≡ b → passing_greatest ts (suc i) ≡ cond b (outranking (rank ts) i (slot_of above found)) (slot_of above found)
+    outranking_is : (late : Option ℕ) → FoundTo s i late → outranking (rank ts) i (slot_of late) ≡ cond (takes s i late) (busy i) (slot_of late)
+    outranking_is None f = refl
+    outranking_is (Some j) f = rw (rank_at_lem _ ok i l, rank_at_lem _ ok j (omega (arith, found_known s i j f)))
+
+    step : (late : Option ℕ) {b t : Bool} → FoundTo s i late → passes ts i ≡ b → takes s i late ≡ t
+        → passing_greatest ts (i + 1) ≡ cond b (cond t (busy i) (slot_of late)) (slot_of late)
     unfolding greatest
-    step b e = ap₂ (λ b x. cond b (outranking (rank ts) i x) x) e f.is_greatest
+    step late {b} f e t =
+        ap (passing_greatest ts) (add-one i) ∙ ap₂ (λ b x. cond b (outranking (rank ts) i x) x) e f
+        ∙ ap (λ x. cond b x (slot_of late)) (outranking_is late f ∙ ap (λ t. cond t (busy i) (slot_of late)) t)
 
-    -- Task i passes its period and takes the place of one that it outranks, or of none,
-    pub found_more : (get_or s.tasks i none).period < get_or values i 0 → above ≤ (get_or s.tasks i none).rank → FoundTo s (i + 1) ((get_or s.tasks i none).rank + 1) i
-    found_more p r = record {
-      is_greatest = ap (passing_greatest ts) (add-one i) ∙ step true passing ∙ go above refl;
-      has_rank = λ q. omega (arith, rank_at_lem _ ok i l);
-    }
-      where
-        passing : passes ts i ≡ true
-        passing = lt-ltb (period ts i) (quick_response ts i) (omega (arith, response_at i l, period_at _ ok i l))
+    passing_is : (get_or s.tasks i none).period < get_or values i 0 → passes ts i ≡ true
+    passing_is p = lt-ltb (period ts i) (quick_response ts i) (omega (arith, response_at i l, period_at _ ok i l))
 
-        go : (x : ℕ) → above ≡ x → outranking (rank ts) i (slot_of x found) ≡ slot_of ((get_or s.tasks i none).rank + 1) i
-        go zero e = rw (add-one (get_or s.tasks i none).rank)
-        go (suc x) e = rw (add-one (get_or s.tasks i none).rank, lt-ltb (rank ts found) (rank ts i) (omega (arith, f.has_rank (omega arith), rank_at_lem _ ok i l)))
+    -- Task i passes its period and takes the place,
+    pub found_more : (late : Option ℕ) → FoundTo s i late → (get_or s.tasks i none).period < get_or values i 0 → takes s i late ≡ true
+        → FoundTo s (i + 1) (Some i)
+    found_more late f p t = step late f (passing_is p) t
 
-    -- or does not outrank it,
-    pub found_lower : (get_or s.tasks i none).period < get_or values i 0 → (get_or s.tasks i none).rank < above → FoundTo s (i + 1) above found
-    found_lower p r = record {
-      is_greatest = ap (passing_greatest ts) (add-one i) ∙ step true passing ∙ go above refl;
-      has_rank = f.has_rank;
-    }
-      where
-        passing : passes ts i ≡ true
-        passing = lt-ltb (period ts i) (quick_response ts i) (omega (arith, response_at i l, period_at _ ok i l))
-
-        go : (x : ℕ) → above ≡ x → outranking (rank ts) i (slot_of x found) ≡ slot_of x found
-        go zero e = absurd (omega arith)
-        go (suc x) e = rw (le-ltb (rank ts found) (rank ts i) (omega (arith, f.has_rank (omega arith), rank_at_lem _ ok i l)))
+    -- or does not take it,
+    pub found_lower : (late : Option ℕ) → FoundTo s i late → (get_or s.tasks i none).period < get_or values i 0 → takes s i late ≡ false
+        → FoundTo s (i + 1) late
+    found_lower late f p t = step late f (passing_is p) t
 
     -- or keeps its period.
-    pub found_same : get_or values i 0 ≤ (get_or s.tasks i none).period → FoundTo s (i + 1) above found
-    found_same p = record {
-      is_greatest = ap (passing_greatest ts) (add-one i)
-          ∙ step false (le-ltb (period ts i) (quick_response ts i) (omega (arith, response_at i l, period_at _ ok i l)));
-      has_rank = f.has_rank;
-    }
+    pub found_same : (late : Option ℕ) → FoundTo s i late → get_or values i 0 ≤ (get_or s.tasks i none).period → FoundTo s (i + 1) late
+    found_same late f p = step late f (le-ltb (period ts i) (quick_response ts i) (omega (arith, response_at i l, period_at _ ok i l))) refl
 
   -- Where none passes, the values are responses.
   pub none_responding : passing_greatest (tasks_of s) (length (tasks_of s)) ≡ idle → Responding s values
   none_responding e = record { response_is = response_at; response_most = λ i l. ltb-false _ _ (found (tasks_of s) e i (omega (arith, tasks_length _ ok))) }
 
 -- All tasks are looked at.
-pub found_all : {s : Sheet} → Sound s → {i above found : ℕ} → i ≡ s.count → FoundTo s i above found
-    → passing_greatest (tasks_of s) (length (tasks_of s)) ≡ slot_of above found
-found_all {s} ok e f = ap (passing_greatest (tasks_of s)) (tasks_length _ ok ∙ sym e) ∙ f.is_greatest
+pub found_all : (s : Sheet) → Sound s → {i : ℕ} (x : Option ℕ) {y : Option ℕ} → i ≡ s.count → FoundTo s i x → x ≡ y
+    → lateness (passing_greatest (tasks_of s) (length (tasks_of s))) ≡ lateness (slot_of y)
+found_all s ok x e f is =
+    ap (λ n. lateness (passing_greatest (tasks_of s) n)) (tasks_length _ ok ∙ sym e) ∙ ap lateness f ∙ ap (λ x. lateness (slot_of x)) is

@@ -1,146 +1,101 @@
--- The tasks that outrank one, gathered from a sheet, and what is claimed by these.
-use Rattle.std.specs.Prelude.{◌≡◌, refl, Bool, cond, ltb, length, set}
-use Rattle.std.proofs.Math.Path.{sym, ap₂}
-use Rattle.std.proofs.Common.{ap, ◌∙◌, mul_comm, mul-le-mul_right, div-mul-le_self, get_or-set_same, lt-ltb, le-ltb}
-use Rattle.std.proofs.Math.Bool.{true, false}
-use mathlib.Core.List.{List}
-use Prim.Native.Nat.{ℕ, ◌+◌, ◌*◌, ◌/◌, ◌≤◌, ◌<◌}
-use Rattle.std.proofs.Math.Numerals.{add-one}
-use native.Mathlib.Omega.{arith}
-use Rattle.std.proofs.Math.ListN.{get_or, length-set}
-use Rattle.std.proofs.Math.Seq.{get_or-set_other}
-use borrow.Author.Count.{below_more}
+-- The tasks that outrank one, and what is claimed by these.
+use Rattle.std.specs.Prelude.{◌≡◌, Bool, true, false, cond, List, [], ◌∷◌, ℕ, zero, suc, ◌+◌, ◌-◌, ◌*◌, ◌≤◌, ◌<◌, ltb, All, filter, length, get_or, sum_by, take}
+use Rattle.std.specs.Int.{div_ceil}
+use Rattle.std.proofs.Common.{refl, sym, ap, ap₂, ◌∙◌, subst, arith}
+use Rattle.std.proofs.Math.Nat.{div-eq_of_lt-le, mul-le-mul_right}
+use Rattle.std.proofs.lemmas.Grind.{div_ceil_times}
+use Rattle.std.proofs.lemmas.List.{take_all}
+use Rattle.std.proofs.lemmas.List.Elements.{filter_more, All-filter, All-from_get_or}
+use Rattle.std.proofs.lemmas.List.Sums.{count_by-le-length, length-filter, sum_by-append, sum_by-le, sum_by-take-le, sum_by_more}
 use Rattle.arith.specs.Ranges.{sum}
-use Rattle.arith.specs.RangeLaws.{sum_eq, sum_le, sum_const}
 use Rattle.theory.specs.declared.Task.{Task}
-use Rattle.theory.specs.Model.Schedule.{none, period, budget}
-use Rattle.theory.specs.Model.Chain.{outranks}
+use Rattle.theory.specs.Model.Schedule.{none, budget, rank}
 use Rattle.theory.specs.Model.Recurrence.{quotient, claim}
 use Rattle.theory.proofs.Analysis.RecurrenceLaws.{share_most}
 use Rattle.sheet.specs.declared.Sheet.{Sheet}
 use Rattle.sheet.specs.Sound.{Sound}
 use Rattle.sheet.specs.Tasks.{tasks_of}
-use Rattle.sheet.specs.TaskLaws.{tasks_length, task_at_lem, budget_at, place_allowed}
-use Rattle.recurrence.specs.Conditions.{most_period, most_share, Places, Outranking, claim_in}
+use Rattle.sheet.specs.TaskLaws.{Allowed, budget_at, rank_at_lem, task_allowed, tasks_length}
+use Rattle.recurrence.specs.Conditions.{most_period, most_share, most_claim, higher, claim_in}
 
--- ---- gathering
+-- The quotient rounded up, as the code divides.
+pub quotient_is : (x T : ℕ) → 0 < T → div_ceil x T ≡ quotient x T
+unfolding quotient
+quotient_is x T positive = let near = div_ceil_times x T positive in sym (div-eq_of_lt-le T {m = x + (T - 1)} (omega arith) (omega arith))
 
--- Those that outrank task i, gathered from the first n tasks.
-pub record GatheredTo (s : Sheet) (i : ℕ) (periods budgets : List ℕ) (size n : ℕ) : Type 0 where
-  pub outranking : Outranking (tasks_of s) i n periods budgets size
-  pub periods_whole : length periods ≡ 16
-  pub budgets_whole : length budgets ≡ 16
-  pub within : size ≤ n
-  pub so_far : n ≤ s.count
+-- ---- the tasks that outrank one
 
-pub gather_start : (s : Sheet) (i : ℕ) (periods budgets : List ℕ) → length periods ≡ 16 → length budgets ≡ 16 → GatheredTo s i periods budgets 0 0
-unfolding sum
-gather_start s i periods budgets a b = record {
-  outranking = record {
-    placed = record {
-      few = omega arith;
-      period_positive = λ p l. absurd (omega arith);
-      period_most = λ p l. absurd (omega arith);
-      budget_most = λ p l. absurd (omega arith);
-    };
-    sums = λ f. refl;
-  };
-  periods_whole = a;
-  budgets_whole = b;
-  within = omega arith;
-  so_far = omega arith;
-}
+-- They are at most sixteen, each as the sheet's tasks are allowed to be.
+pub higher_allowed : (s : Sheet) → Sound s → (i : ℕ) {outranking : List Task} → outranking ≡ higher (tasks_of s) i
+    → (length outranking ≤ 16) × All Allowed outranking
+higher_allowed s ok i e = subst (λ ts. (length ts ≤ 16) × All Allowed ts) (sym e) (
+  omega (arith, length-filter test (tasks_of s), count_by-le-length test (tasks_of s), tasks_length s ok, ok.count_most),
+  All-filter test Allowed (tasks_of s) (All-from_get_or Allowed (tasks_of s) none (task_allowed s ok)),
+)
+  where
+    test : Task → Bool
+    test t = ltb (rank (tasks_of s) i) t.rank
 
-module _ {s : Sheet} (ok : Sound s) (i : ℕ) (known : i < s.count) {periods budgets : List ℕ} {size j : ℕ} (g : GatheredTo s i periods budgets size j) (l : j < s.count) where
-  abbrev ts : List Task
-  ts = tasks_of s
-
-  abbrev t : Task
-  t = get_or s.tasks j none
-
-  same : (f : ℕ → ℕ → ℕ) (b : Bool) → ltb (get_or s.tasks i none).rank t.rank ≡ b
-      → cond (outranks ts j i) (f (period ts j) (budget ts j)) 0 ≡ cond b (f t.period t.budget) 0
-  same f b e =
-      ap₂ (λ (x y : Task). cond (ltb x.rank y.rank) (f y.period y.budget) 0) (task_at_lem _ ok i known) (task_at_lem _ ok j l)
-      ∙ ap (λ x. cond x (f t.period t.budget) 0) e
-
-  -- Task j outranks task i and takes the next place,
-  pub gather_in : (get_or s.tasks i none).rank < t.rank → GatheredTo s i (set periods size t.period) (set budgets size t.budget) (size + 1) (j + 1)
-  unfolding sum
-  gather_in r = record {
-    outranking = record {
-      placed = record {
-        few = omega (arith, g.within, ok.count_most);
-        period_positive = below_more (λ p. 0 < get_or (set periods size t.period) p 0) size
-            (λ p m. rw (others periods t.period p m) (g.outranking.placed.period_positive p m)) (rw here_period (place_allowed _ ok j l).period_positive);
-        period_most = below_more (λ p. get_or (set periods size t.period) p 0 ≤ most_period) size
-            (λ p m. rw (others periods t.period p m) (g.outranking.placed.period_most p m)) (rw here_period (place_allowed _ ok j l).period_most);
-        budget_most = below_more (λ p. get_or (set budgets size t.budget) p 0 ≤ get_or (set periods size t.period) p 0) size
-            (λ p m. rw (others periods t.period p m, others budgets t.budget p m) (g.outranking.placed.budget_most p m))
-            (rw (here_period, here_budget) (place_allowed _ ok j l).budget_most);
-      };
-      sums = λ f. rw (add-one size, add-one j) (ap₂ ◌+◌
-          (sum_eq size _ _ (λ p m. ap₂ f (others periods t.period p m) (others budgets t.budget p m)) ∙ g.outranking.sums f)
-          (ap₂ f here_period here_budget ∙ sym (same f true (lt-ltb _ _ r))));
-    };
-    periods_whole = length-set periods size _ ∙ g.periods_whole;
-    budgets_whole = length-set budgets size _ ∙ g.budgets_whole;
-    within = omega (arith, g.within);
-    so_far = omega arith;
-  }
-    where
-      others : (xs : List ℕ) (v p : ℕ) → p < size → get_or (set xs size v) p 0 ≡ get_or xs p 0
-      others xs v p m = get_or-set_other xs size p v 0 (λ z. omega arith)
-
-      here_period : get_or (set periods size t.period) size 0 ≡ t.period
-      here_period = get_or-set_same periods size _ 0 (omega (arith, g.periods_whole, g.within, ok.count_most))
-
-      here_budget : get_or (set budgets size t.budget) size 0 ≡ t.budget
-      here_budget = get_or-set_same budgets size _ 0 (omega (arith, g.budgets_whole, g.within, ok.count_most))
-
-  -- or does not, and the places stay.
-  pub gather_out : t.rank ≤ (get_or s.tasks i none).rank → GatheredTo s i periods budgets size (j + 1)
-  unfolding sum
-  gather_out r = record {
-    outranking = record {
-      placed = g.outranking.placed;
-      sums = λ f. rw (add-one j) (omega (arith, g.outranking.sums f, same f false (le-ltb _ _ r)));
-    };
-    periods_whole = g.periods_whole;
-    budgets_whole = g.budgets_whole;
-    within = omega (arith, g.within);
-    so_far = omega arith;
-  }
+-- They are found among the sheet's places, by the rank that stands there, once all are looked at.
+pub higher_is : (s : Sheet) → Sound s → (i : ℕ) → i < s.count → (n : ℕ) → length (take s.count s.tasks) ≤ n
+    → filter (λ t. ltb (get_or s.tasks i none).rank t.rank) (take n (take s.count s.tasks)) ≡ higher (tasks_of s) i
+unfolding tasks_of
+higher_is s ok i l n m =
+    ap (filter (λ t. ltb (get_or s.tasks i none).rank t.rank)) (take_all n (take s.count s.tasks) m)
+    ∙ ap (λ r. filter (λ t. ltb r t.rank) (take s.count s.tasks)) (sym (rank_at_lem s ok i l))
 
 -- ---- the claim
 
--- A budget that is at most its period, times a quotient by it, is at most what was divided.
-pub product_most : (b T y : ℕ) → b ≤ T → b * (y / T) ≤ y
-product_most b T y l = omega (arith, mul-le-mul_right {m = b} {n = T} (y / T) l, mul_comm T (y / T), div-mul-le_self y T)
-
-pub added_most : (t b T y : ℕ) → b ≤ T → t + b * (y / T) ≤ t + y
-added_most t b T y l = omega (arith, product_most b T y l)
-
-module _ {periods budgets : List ℕ} {size : ℕ} (places : Places periods budgets size) (x : ℕ) (m : x ≤ most_period) where
-  share_small : (p : ℕ) → p < size → get_or budgets p 0 * quotient x (get_or periods p 0) ≤ most_share
-  share_small p l =
-      omega (arith, share_most (get_or periods p 0) (places.period_positive p l) (get_or budgets p 0) x (places.budget_most p l), places.period_most p l)
-
-  pub claim_most : (own n : ℕ) → n ≤ size → claim_in periods budgets n own x ≤ own + n * most_share
-  unfolding claim_in
-  claim_most own n l = omega (
-    arith,
-    sum_const n most_share,
-    sum_le n (λ p. get_or budgets p 0 * quotient x (get_or periods p 0)) (λ p. most_share) (λ p k. share_small p (omega arith)),
-  )
-
--- By the places of those that outrank a task it is the task's own.
-pub claim_is : (s : Sheet) → Sound s → (i : ℕ) → i < s.count → {periods budgets : List ℕ} {size : ℕ} → Outranking (tasks_of s) i s.count periods budgets size
-    → (x : ℕ) → claim_in periods budgets size (get_or s.tasks i none).budget x ≡ claim (tasks_of s) (budget (tasks_of s)) i x
-unfolding claim_in claim
-claim_is s ok i l o x =
-    ap₂ ◌+◌ (sym (budget_at _ ok i l)) (o.sums (λ T C. C * quotient x T))
-    ∙ ap (λ n. budget ts i + sum n (λ j. cond (outranks ts j i) (budget ts j * quotient x (period ts j)) 0)) (sym (tasks_length _ ok))
+-- A sum over those of the first n that pass is one over all of these, with nothing for the others.
+filter_sum : (f : Task → ℕ) (test : Task → Bool) (ts : List Task) (n : ℕ) → n ≤ length ts
+    → sum_by f (filter test (take n ts)) ≡ sum n (λ j. cond (test (get_or ts j none)) (f (get_or ts j none)) 0)
+unfolding sum
+filter_sum f test ts zero l = refl
+filter_sum f test ts (suc n) l =
+    ap (λ m. sum_by f (filter test (take m ts))) {x = suc n} {y = n + 1} (omega arith)
+    ∙ ap (sum_by f) (filter_more test ts n none l)
+    ∙ sum_by-append f (filter test (take n ts)) (cond (test (get_or ts n none)) (get_or ts n none ∷ []) [])
+    ∙ ap₂ ◌+◌ (filter_sum f test ts n (omega arith)) (last (test (get_or ts n none)))
   where
-    ts : List Task
-    ts = tasks_of s
+    last : (b : Bool) → sum_by f (cond b (get_or ts n none ∷ []) []) ≡ cond b (f (get_or ts n none)) 0
+    last true = omega arith
+    last false = refl
+
+-- One place more adds what its task claims,
+pub claim_more : (ts : List Task) (own x p : ℕ) {ticks q : ℕ} → p < length ts → All Allowed ts
+    → ticks ≡ claim_in (take p ts) own x → q ≡ div_ceil x (get_or ts p none).period
+    → ticks + (get_or ts p none).budget * q ≡ claim_in (take (p + 1) ts) own x
+unfolding claim_in
+claim_more ts own x p {ticks} {q} l each e d = omega (
+  arith,
+  ap (λ q. (get_or ts p none).budget * q) (d ∙ quotient_is x (get_or ts p none).period (each p none l).period_positive),
+  sum_by_more (λ t. t.budget * quotient x t.period) ts p none l,
+)
+
+-- and no task claims more than the candidate and its period.
+pub claim_most : (ts : List Task) (own x n : ℕ) → length ts ≤ 16 → All Allowed ts → own ≤ most_period → x ≤ most_period
+    → claim_in (take n ts) own x ≤ most_claim
+unfolding claim_in
+claim_most ts own x n few each l m = omega (
+  arith,
+  sum_by-take-le (λ t. t.budget * quotient x t.period) ts n,
+  sum_by-le (λ t. t.budget * quotient x t.period) most_share ts (λ p d k. share p d k),
+  mul-le-mul_right {m = length ts} {n = 16} most_share few,
+)
+  where
+    share : (p : ℕ) (d : Task) → p < length ts → (get_or ts p d).budget * quotient x (get_or ts p d).period ≤ most_share
+    share p d k =
+        let t = each p d k in
+        omega (arith, share_most (get_or ts p d).period t.period_positive (get_or ts p d).budget x t.budget_most, t.period_most)
+
+-- By those that outrank a task it is the task's own.
+pub claim_is : (ts : List Task) (i x : ℕ) → claim_in (higher ts i) (budget ts i) x ≡ claim ts (budget ts) i x
+unfolding claim_in claim
+claim_is ts i x =
+    ap (λ n. budget ts i + n)
+    (ap (λ xs. sum_by (λ t. t.budget * quotient x t.period) (filter (λ t. ltb (rank ts i) t.rank) xs)) (sym (take_all (length ts) ts (omega arith)))
+    ∙ filter_sum (λ t. t.budget * quotient x t.period) (λ t. ltb (rank ts i) t.rank) ts (length ts) (omega arith))
+
+pub claim_at : (s : Sheet) → Sound s → (i : ℕ) → i < s.count → (x : ℕ) {outranking : List Task} → outranking ≡ higher (tasks_of s) i
+    → claim_in outranking (get_or s.tasks i none).budget x ≡ claim (tasks_of s) (budget (tasks_of s)) i x
+claim_at s ok i l x e = ap₂ (λ ts C. claim_in ts C x) e (sym (budget_at s ok i l)) ∙ claim_is (tasks_of s) i x

@@ -1,42 +1,41 @@
 -- What the functions under the call promise each other.
-use Rattle.std.specs.Prelude.{◌≡◌, List, cond, ℕ, ◌+◌, ◌*◌, ◌≤◌, ◌<◌, length, get_or}
-use Rattle.arith.specs.Ranges.{sum}
+use Rattle.std.specs.Prelude.{◌≡◌, List, ℕ, ◌+◌, ◌*◌, ◌≤◌, ◌<◌, ltb, filter, length, get_or, sum_by, take}
 use Rattle.theory.specs.declared.Task.{Task}
-use Rattle.theory.specs.Model.Schedule.{period, budget}
-use Rattle.theory.specs.Model.Chain.{Chain, outranks, outranked}
+use Rattle.theory.specs.Model.Schedule.{period, rank}
+use Rattle.theory.specs.Model.Chain.{Chain, outranked}
 use Rattle.theory.specs.Model.Recurrence.{quotient, quick_response}
 use Rattle.theory.specs.Analysis.Largest.{pair_bound}
 use Rattle.sheet.specs.declared.Sheet.{Sheet}
 use Rattle.sheet.specs.Tasks.{tasks_of, first_of, rest_of}
 
--- A period is at most 100,000; then a task claims at most 200,000 of so many ticks, a pair adds at most that to a bound, and a chain of
--- sixteen tasks has one of at most 3,100,000.
+-- A period is at most 100,000; then a task claims at most 200,000 of so many ticks, and sixteen with a budget at most 3,300,000; a pair adds
+-- at most 200,000 to a bound, and a chain of sixteen tasks has one of at most 3,100,000.
 abbrev pub most_period : ℕ
 most_period = 100000
 
 abbrev pub most_share : ℕ
 most_share = 200000
 
+abbrev pub most_claim : ℕ
+most_claim = 3300000
+
 abbrev pub most_bound : ℕ
 most_bound = 3100000
 
--- Tasks in so many places, by period and budget.
-pub record Places (periods budgets : List ℕ) (size : ℕ) : Type 0 where
+-- The tasks that outrank task i, in their order.
+abbrev pub higher : List Task → ℕ → List Task
+higher ts i = filter (λ t. ltb (rank ts i) t.rank) ts
+
+-- They stand in the first places of sixteen.
+pub record Gathered (s : Sheet) (i : ℕ) (places : List Task) (size : ℕ) : Type 0 where
+  pub are : take size places ≡ higher (tasks_of s) i
+  pub room : length places ≡ 16
   pub few : size ≤ 16
-  pub period_positive : (p : ℕ) → p < size → 0 < get_or periods p 0
-  pub period_most : (p : ℕ) → p < size → get_or periods p 0 ≤ most_period
-  pub budget_most : (p : ℕ) → p < size → get_or budgets p 0 ≤ get_or periods p 0
 
--- The places hold those of the first n tasks that outrank task i, whatever is added up over them.
-pub record Outranking (ts : List Task) (i n : ℕ) (periods budgets : List ℕ) (size : ℕ) : Type 0 where
-  pub placed : Places periods budgets size
-  pub sums : (f : ℕ → ℕ → ℕ) → sum size (λ p. f (get_or periods p 0) (get_or budgets p 0))
-      ≡ sum n (λ j. cond (outranks ts j i) (f (period ts j) (budget ts j)) 0)
-
--- What is claimed at x by a task of this budget and by those in the places.
-unfoldable pub claim_in : List ℕ → List ℕ → ℕ → ℕ → ℕ → ℕ
-unfolding sum quotient
-claim_in periods budgets size own x = own + sum size (λ p. get_or budgets p 0 * quotient x (get_or periods p 0))
+-- What is claimed at x by a task of this budget and by those that outrank it.
+unfoldable pub claim_in : List Task → ℕ → ℕ → ℕ
+unfolding quotient
+claim_in outranking own x = own + sum_by (λ t. t.budget * quotient x t.period) outranking
 
 -- The responses of the sheet's tasks are in their places, and none passes its period.
 pub record Responding (s : Sheet) (responses : List ℕ) : Type 0 where

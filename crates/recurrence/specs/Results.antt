@@ -1,5 +1,5 @@
 -- When each answer is given, and what an answer says of every schedule of the sheet's tasks, whatever their hyperperiod.
-use Rattle.std.specs.Prelude.{◌≡◌, ◌≢◌, List, [], ◌∷◌, ℕ, ◌+◌, ◌-◌, ◌≤◌, ◌<◌, length, get_or}
+use Rattle.std.specs.Prelude.{◌≡◌, ◌≢◌, List, [], ◌∷◌, ℕ, ◌+◌, ◌-◌, ◌≤◌, ◌<◌, length, get_or, Result, Ok}
 use Rattle.std.proofs.Math.Path.{refl}
 use Rattle.std.proofs.Common.{sym, ap, ◌∙◌, subst, arith}
 use Rattle.std.proofs.lemmas.Bool.{false≢true}
@@ -12,7 +12,8 @@ use Rattle.theory.specs.Model.Flag.{FlagWithin}
 use Rattle.theory.specs.Model.Recurrence.{quick_response, Passing, EverLate}
 use Rattle.theory.proofs.Analysis.QuickLaws.{within_accepted}
 use Rattle.theory.proofs.Results.QuickBound as theory
-use Rattle.answers.specs.Answers.{Answer, given, refused, Judgement, fine, also}
+use Rattle.answers.specs.declared.Refusal.{Refusal}
+use Rattle.answers.specs.Answers.{Answer, given, refused, Judgement, fine, after, also, told}
 use Rattle.answers.specs.AnswerLaws.{refused_given, when_fine, also_given}
 use Rattle.answers.specs.NumberLaws.{when_only}
 use Rattle.sheet.specs.NumberLaws.{judge_never}
@@ -28,8 +29,8 @@ use Rattle.sheet.specs.LatenessLaws.{lateness_fine}
 use Rattle.recurrence.specs.declared.answer.Bounds.{Bounds}
 use Rattle.recurrence.specs.declared.answer.QuickBound.{QuickBound}
 use Rattle.recurrence.specs.declared.answer.QuickSuite.{QuickSuite}
-use Rattle.recurrence.specs.Calls.{passing_greatest, bounds_of, quick_of, suite_of, no_bounds, bounds_after, responses_after}
-use Rattle.recurrence.specs.CallLaws.{found, quick_known, suite_sound, quick_fits, quick_passing_task, response_at}
+use Rattle.recurrence.specs.Calls.{passing_greatest, bounds_of, quick_of, suite_of, responses_in, no_bounds, bounds_to}
+use Rattle.recurrence.specs.CallLaws.{found, given_bound, quick_known, suite_sound, quick_fits, quick_passing_task, response_at}
 use Rattle.recurrence.specs.Promises.{BoundPromise, SuitePromise}
 
 -- ---- when each answer is given
@@ -142,12 +143,13 @@ pub given_accepted : (s : Sheet) (number : ℕ) {b : Bounds} → quick_of s numb
 given_accepted s number e = let g = quick_given s number e in within_accepted (sound_proper _ (judged_sound s g.judged_fine)) g.none_passing
 
 -- and what is answered for a task is the greatest response of all its jobs; the first has it.
-pub responses_greatest : (s : Sheet) (number : ℕ) (r : QuickBound) (promise : BoundPromise s number r) {b : Bounds} (answer : quick_of s number ≡ given b) (i : ℕ) (known : i < s.count)
-    → ((k : ℕ) → response (tasks_of s) i k ≤ get_or r.responses i 0) × (response (tasks_of s) i 0 ≡ get_or r.responses i 0)
-responses_greatest s number r promise answer i known =
-    let sound = judged_sound s (quick_given s number answer).judged_fine in
+pub responses_greatest : (s : Sheet) (number : ℕ) (q : QuickBound) (promise : BoundPromise s number (Ok q)) (i : ℕ) (known : i < s.count)
+    → ((k : ℕ) → response (tasks_of s) i k ≤ get_or q.responses i 0) × (response (tasks_of s) i 0 ≡ get_or q.responses i 0)
+responses_greatest s number q promise i known =
+    let answer = given_bound s number q promise in
+    let sound = judged_sound s (quick_given s number answer.0).judged_fine in
     let x = theory.quick_response_of_all (sound_proper _ sound) i (omega (arith, tasks_length _ sound)) in
-    let is = response_at _ sound (promise.1 ∙ ap (λ a. responses_after a s) answer) i known in
+    let is = response_at _ sound answer.1 i known in
     ((λ k. omega (arith, is, x.0 k)), omega (arith, is, x.1))
 
 -- No schedule exceeds the bound. If it is answered, then for all demands of 1 to C, every run that is a schedule for them and every job of the
@@ -176,20 +178,25 @@ no_flag_exceeds_quick_bound s number b answer d within run schedule e =
 
 -- ---- every chain from one search: of each chain what the call for it alone answers
 
-pub suite_bound : (s : Sheet) (r : QuickSuite) (promise : SuitePromise s r) (number : ℕ) (known : lacks s number ≡ fine)
-    → quick_of s number ≡ also (suite_of s) (given (get_or r.chains (number - 1) no_bounds))
-suite_bound s r promise number known = quick_known s number known ∙ go (suite_of s) refl
+pub suite_bound : (s : Sheet) (r : Result QuickSuite Refusal) (promise : SuitePromise s r) (number : ℕ) (known : lacks s number ≡ fine)
+    → quick_of s number ≡ after (told r) (λ q. given (get_or q.chains (number - 1) no_bounds))
+suite_bound s r promise number known =
+    quick_known s number known ∙ go (suite_of s) refl ∙ sym (ap (λ a. after a (λ (q : QuickSuite). given (get_or q.chains (number - 1) no_bounds))) promise)
   where
     count : (1 ≤ number) × (number ≤ chain_count s)
     count = inside 1 (chain_count s) number (when_fine _ 17 known)
 
-    place : suite_of s ≡ fine → get_or r.chains (number - 1) no_bounds ≡ bounds_of (tasks_of s) (chain_of s number)
-    place e =
-        ap (λ xs. get_or xs (number - 1) no_bounds) (promise.2 ∙ ap (λ a. bounds_after a s) e)
-        ∙ places_taken 8 no_bounds (λ c. bounds_of (tasks_of s) (chain_of s (c + 1))) (chain_count s) no_bounds (number - 1) (omega (arith, count))
+    all : QuickSuite
+    all = record { responses = responses_in s; chains = bounds_to s (chain_count s) }
+
+    place : suite_of s ≡ fine → bounds_of (tasks_of s) (chain_of s number) ≡ get_or (bounds_to s (chain_count s)) (number - 1) no_bounds
+    place e = sym (
+        places_taken 8 no_bounds (λ c. bounds_of (tasks_of s) (chain_of s (c + 1))) (chain_count s) no_bounds (number - 1) (omega (arith, count))
         (omega (arith, count, chains_most _ (judged_sound s (suite_sound s e))))
         ∙ ap (λ n. bounds_of (tasks_of s) (chain_of s n)) {x = number - 1 + 1} {y = number} (omega (arith, count))
+        )
 
-    go : (a : Judgement) → suite_of s ≡ a → also a (given (bounds_of (tasks_of s) (chain_of s number))) ≡ also a (given (get_or r.chains (number - 1) no_bounds))
-    go (given u) e = ap given (sym (place e))
+    go : (a : Judgement) → suite_of s ≡ a → also a (given (bounds_of (tasks_of s) (chain_of s number)))
+        ≡ after (also a (given all)) (λ (q : QuickSuite). given (get_or q.chains (number - 1) no_bounds))
+    go (given u) e = ap given (place e)
     go (refused n vs) e = refl

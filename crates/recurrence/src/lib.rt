@@ -5,75 +5,68 @@
 
 mod answer;
 
-ghost use Rattle.std.specs.Prelude.{◌≡◌, ◌≤◌, ◌<◌, length, replicate};
+ghost use Rattle.std.specs.Prelude.{◌≡◌, ◌≤◌, ◌<◌, All, length};
 ghost use Rattle.theory.specs.Model.Recurrence.{quick_response};
-ghost use Rattle.answers.specs.Answers.{fine, told, refusal_in};
+ghost use Rattle.answers.specs.Answers.{fine, told};
 ghost use Rattle.sheet.specs.Sound.{Sound};
 ghost use Rattle.sheet.specs.Tasks.{tasks_of, chain_count, lacks, chain_at, chain_of};
+ghost use Rattle.sheet.specs.TaskLaws.{Allowed};
 ghost use Rattle.sheet.specs.Lateness.{lateness};
-ghost use Rattle.recurrence.specs.declared.answer.Quick.TheVariants.{No};
-ghost use Rattle.recurrence.specs.Calls.{passing_greatest, bound_by, bounds_of, responses_in, no_responses, no_bounds, bounds_to};
-ghost use Rattle.recurrence.specs.Conditions.{most_period, Places, Outranking, claim_in, pair_of, Responding, ChainOn};
-ghost use Rattle.recurrence.specs.Promises.{BoundPromise, BoundRefusalPromise, SuitePromise};
+ghost use Rattle.recurrence.specs.Calls.{passing_greatest, bound_by, bounds_of, responses_in, bounds_to};
+ghost use Rattle.recurrence.specs.Conditions.{most_period, higher, Gathered, claim_in, Responding, ChainOn};
+ghost use Rattle.recurrence.specs.Promises.{BoundPromise, PairBoundPromise, SuitePromise};
 
-pub use answer::{Bounds, Quick, QuickBound, QuickSuite};
-use answers::{Refusal, Verdict};
+pub use answer::{Bounds, QuickBound, QuickSuite};
+use answers::Refusal;
 use sheet::{Chain, Sheet};
+use theory::Task;
 
-// The periods and budgets of the tasks that outrank task i, and how many they are.
-fn gather(s: Sheet, i: usize, periods: &mut [u32; 16], budgets: &mut [u32; 16]) -> usize
+// The tasks that outrank task i, in the front of the places, and how many they are.
+fn gather(s: Sheet, i: usize, outranking: &mut [Task; 16]) -> usize
     requires sound { Sound s }
-    requires i_lt_count { (i < s.count) × (length periods.old ≡ 16) × (length budgets.old ≡ 16) }
-    ensures { Outranking (tasks_of s) i s.count periods.new budgets.new result }
+    requires i_lt_count { i < s.count }
+    ensures { Gathered s i outranking.new result }
 {
-    let n = s.count as usize;
     let rank = s.tasks[i].rank;
-    let mut size = 0usize;
-    let mut j = 0usize;
-    while j < n {
-        let t = s.tasks[j];
-        if rank < t.rank {
-            periods[size] = t.period;
-            budgets[size] = t.budget;
+    let n = s.count as usize;
+    let mut size = 0;
+    for task in &s.tasks[..n] {
+        if rank < task.rank {
+            outranking[size] = *task;
             size += 1;
         }
-        j += 1;
     }
     size
 }
 
 // "own budget, plus for each outranking task its budget times (the candidate divided by that task's period, the quotient rounded up)".
 // A budget is at most its period, so each product is less than the candidate and the period.
-fn claim(periods: &[u32; 16], budgets: &[u32; 16], size: usize, own: u32, candidate: u32) -> u32
-    requires places { Places periods.now budgets.now size }
+fn claim(outranking: &[Task], own: u32, candidate: u32) -> u32
+    requires outranking_are { (length outranking.now ≤ 16) × All Allowed outranking.now }
     requires own_le_most_period { (own ≤ most_period) × (candidate ≤ most_period) }
-    ensures { result ≡ claim_in periods.now budgets.now size own candidate }
+    ensures { result ≡ claim_in outranking.now own candidate }
 {
     let mut ticks = own;
-    let mut p = 0usize;
-    while p < size {
-        let period = periods[p];
-        ticks += budgets[p] * ((candidate + (period - 1)) / period);
-        p += 1;
+    for task in outranking {
+        ticks += task.budget * candidate.div_ceil(task.period);
     }
     ticks
 }
 
 // "the least fixed point": the search "begins at the budget and stops at the first value that repeats, or once it passes the period".
 // Of a task that passes it the value is T + 1.
-fn climb(s: Sheet, i: usize, periods: &[u32; 16], budgets: &[u32; 16], size: usize) -> u32
+fn climb(s: Sheet, i: usize, outranking: &[Task]) -> u32
     requires sound { Sound s }
-    requires i_lt_count { (i < s.count) × Outranking (tasks_of s) i s.count periods.now budgets.now size }
+    requires i_lt_count { (i < s.count) × (outranking.now ≡ higher (tasks_of s) i) }
     ensures { result ≡ quick_response (tasks_of s) i }
 {
-    let own = s.tasks[i].budget;
-    let mut candidate = own;
+    let task = s.tasks[i];
+    let mut candidate = task.budget;
     let value = loop {
-        let period = s.tasks[i].period;
-        if period < candidate {
-            break period + 1;
+        if task.period < candidate {
+            break task.period + 1;
         }
-        let next = claim(periods, budgets, size, own, candidate);
+        let next = claim(outranking, task.budget, candidate);
         if next == candidate {
             break candidate;
         }
@@ -88,10 +81,9 @@ fn response(s: Sheet, i: usize) -> u32
     requires i_lt_count { i < s.count }
     ensures { result ≡ quick_response (tasks_of s) i }
 {
-    let mut periods = [0u32; 16];
-    let mut budgets = [0u32; 16];
-    let size = gather(s, i, &mut periods, &mut budgets);
-    climb(s, i, &periods, &budgets, size)
+    let mut outranking = [Task::default(); 16];
+    let size = gather(s, i, &mut outranking);
+    climb(s, i, &outranking[..size])
 }
 
 // The value of each task, in sixteen places.
@@ -99,57 +91,47 @@ fn each_response(s: Sheet) -> [u32; 16]
     requires { Sound s }
     ensures { result ≡ responses_in s }
 {
-    let n = s.count as usize;
     let mut each = [0u32; 16];
-    let mut i = 0usize;
-    while i < n {
+    for i in 0..s.count as usize {
         each[i] = response(s, i);
-        i += 1;
     }
     each
 }
 
-// "15 names the greatest-ranked task whose value passes its period": one rank more than that of the task so far, 0 for none.
-fn passing(s: Sheet, responses: &[u32; 16]) -> Verdict
+// "15 names the greatest-ranked task whose value passes its period".
+fn passing(s: Sheet, responses: &[u32; 16]) -> Result<(), Refusal>
     requires sound { Sound s }
     requires responses_value { responses.now ≡ responses_in s }
     ensures { told result ≡ lateness (passing_greatest (tasks_of s) (length (tasks_of s))) }
 {
-    let n = s.count as usize;
-    let mut above = 0u32;
-    let mut found = 0u32;
-    let mut i = 0usize;
-    while i < n {
-        let t = s.tasks[i];
-        if t.period < responses[i] {
-            let rank = t.rank as u32;
-            if above <= rank {
-                above = rank + 1;
-                found = i as u32;
-            }
+    let mut late: Option<u8> = None;
+    for i in 0..s.count {
+        let task = s.tasks[i as usize];
+        let outranks = match late {
+            Some(j) => s.tasks[j as usize].rank < task.rank,
+            None => true,
+        };
+        if task.period < responses[i as usize] && outranks {
+            late = Some(i);
         }
-        i += 1;
     }
-    if above == 0 {
-        return Verdict::Fine;
+    match late {
+        Some(task) => Err(Refusal::Late(task)),
+        None => Ok(()),
     }
-    Verdict::No(Refusal::With(15, found))
 }
 
-// What a pair of neighbours adds to the quick bound.
-fn pair_bound(s: Sheet, p: usize, c: usize, responses: &[u32; 16]) -> u32
-    requires sound { Sound s }
-    requires responding { Responding s responses.now }
-    requires p_lt_count { (p < s.count) × (c < s.count) }
-    ensures { result ≡ pair_of s p c }
+// What a pair of neighbours adds to the quick bound, if the response of the first is this.
+pub fn pair_bound(producer: Task, consumer: Task, response: u32) -> u64
+    ensures { PairBoundPromise producer consumer response result }
 {
-    let period = s.tasks[c].period;
-    let g = arith::gcd(s.tasks[p].period, period);
-    let mut ticks = period - g;
-    if s.tasks[p].rank < s.tasks[c].rank {
-        ticks += arith::up(g, responses[p]) as u32;
+    let common = arith::gcd(producer.period, consumer.period);
+    let ticks = consumer.period.saturating_sub(common) as u64;
+    if producer.rank < consumer.rank {
+        ticks + arith::up(common, response)
+    } else {
+        ticks
     }
-    ticks
 }
 
 // The quick bound of a chain: what each pair adds, and the last task's response.
@@ -159,16 +141,13 @@ fn bound_along(s: Sheet, chain: &[u8], responses: &[u32; 16]) -> u32
     requires chain_on { ChainOn s chain.now }
     ensures { result ≡ bound_by (tasks_of s) chain.now }
 {
-    let last = chain.len() - 1;
     let mut ticks = 0u32;
-    let mut j = 0usize;
-    while j < last {
-        let p = chain[j] as usize;
-        let c = chain[j + 1] as usize;
-        ticks += pair_bound(s, p, c, responses);
-        j += 1;
+    let mut p = chain[0] as usize;
+    for entry in &chain[1..] {
+        let c = *entry as usize;
+        ticks += pair_bound(s.tasks[p], s.tasks[c], responses[p]) as u32;
+        p = c;
     }
-    let p = chain[last] as usize;
     ticks + responses[p]
 }
 
@@ -211,59 +190,16 @@ fn bounds_of(s: Sheet, number: u8, responses: &[u32; 16]) -> Bounds
     bounds_along(s, &entries[..m], responses)
 }
 
-// The refusal in an answer that gives no bound. Number 0, which no refusal has, stands for none.
-pub fn bound_refusal(q: Quick) -> Refusal
-    ensures { BoundRefusalPromise q result }
-{
-    let Quick::No(r) = q else {
-        return Refusal::Number(0);
-    };
-    r
-}
-
-// A refusal, with zeros for the responses.
-fn refused(v: Verdict) -> QuickBound
-    ensures { (result.answer ≡ No (refusal_in v)) × (result.responses ≡ no_responses) }
-{
-    let refusal = answers::refusal_of(v);
-    QuickBound {
-        answer: Quick::No(refusal),
-        responses: [0u32; 16],
-    }
-}
-
-// The quick bound of a chain with no table, and the response of each task in its place; zeros where it is refused.
-pub fn bound(s: Sheet, number: u8) -> QuickBound
+// The quick bound of a chain with no table, and the response of each task in its place.
+pub fn bound(s: Sheet, number: u8) -> Result<QuickBound, Refusal>
     ensures { BoundPromise s number result }
 {
-    let v = sheet::judge(s);
-    let Verdict::Fine = v else {
-        return refused(v);
-    };
-    let named = sheet::numbered(s, number);
-    let Verdict::Fine = named else {
-        return refused(named);
-    };
+    sheet::judge(s)?;
+    sheet::numbered(s, number)?;
     let responses = each_response(s);
-    let late = passing(s, &responses);
-    let Verdict::Fine = late else {
-        return refused(late);
-    };
+    passing(s, &responses)?;
     let bounds = bounds_of(s, number, &responses);
-    QuickBound {
-        answer: Quick::Of(bounds),
-        responses,
-    }
-}
-
-fn no_bounds() -> [Bounds; 8]
-    ensures { result ≡ replicate 8 no_bounds }
-{
-    let none = Bounds {
-        sampling_bound: 0,
-        bound: 0,
-    };
-    [none; 8]
+    Ok(QuickBound { bounds, responses })
 }
 
 // The bounds of each chain.
@@ -273,45 +209,20 @@ fn each_bounds(s: Sheet, responses: &[u32; 16]) -> [Bounds; 8]
     ensures { result ≡ bounds_to s (chain_count s) }
 {
     let n = sheet::chain_count(s);
-    let mut chains = no_bounds();
-    let mut c = 0u8;
-    while c < n {
-        let place = c as usize;
-        chains[place] = bounds_of(s, c + 1, responses);
-        c += 1;
+    let mut chains = [Bounds::default(); 8];
+    for c in 0..n {
+        chains[c as usize] = bounds_of(s, c + 1, responses);
     }
     chains
 }
 
-// A refusal, with zeros beside it.
-fn none_of(v: Verdict) -> QuickSuite
-    ensures { (result.answer ≡ v) × (result.responses ≡ no_responses) × (result.chains ≡ replicate 8 no_bounds) }
-{
-    let chains = no_bounds();
-    QuickSuite {
-        answer: v,
-        responses: [0u32; 16],
-        chains,
-    }
-}
-
-// The quick bounds of every chain, and the response of each task, from one search; zeros where it is refused.
-pub fn suite(s: Sheet) -> QuickSuite
+// The quick bounds of every chain, and the response of each task, from one search.
+pub fn suite(s: Sheet) -> Result<QuickSuite, Refusal>
     ensures { SuitePromise s result }
 {
-    let v = sheet::judge(s);
-    let Verdict::Fine = v else {
-        return none_of(v);
-    };
+    sheet::judge(s)?;
     let responses = each_response(s);
-    let late = passing(s, &responses);
-    let Verdict::Fine = late else {
-        return none_of(late);
-    };
+    passing(s, &responses)?;
     let chains = each_bounds(s, &responses);
-    QuickSuite {
-        answer: late,
-        responses,
-        chains,
-    }
+    Ok(QuickSuite { responses, chains })
 }

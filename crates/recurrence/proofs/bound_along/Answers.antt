@@ -1,78 +1,54 @@
--- After j turns the sum and what is left from entry j on are the whole bound.
-use mathlib.Core.Path.{◌≡◌, ap}
-use mathlib.Core.List.{List}
-use Prim.Native.Nat.{ℕ, ◌+◌, ◌-◌, ◌<◌}
-use native.Mathlib.Omega.{arith}
-use lib.ListN.{length, get_or}
-use Rattle.sheet.specs.declared.Sheet.{Sheet}
+-- What is added so far and what is left from this entry on are the whole bound.
+use Rattle.std.proofs.Common.{◌≡◌, ◌+◌, ◌-◌, ◌≤◌, length, get_or, drop, length-take, length-drop, arith}
 use Rattle.sheet.specs.Tasks.{tasks_of}
 use Rattle.recurrence.specs.Calls.{bound_by}
-use Rattle.recurrence.specs.Conditions.{Responding, ChainOn}
-use Rattle.recurrence.specs.BoundLaws.{bound_from, bound_start, bound_turn, bound_last, bound_small}
+use Rattle.recurrence.specs.Conditions.{most_bound}
+use Rattle.recurrence.specs.BoundLaws.{bound_from, bound_start, pair_taken, pairs_taken, entry_is}
+use Rattle.recurrence.proofs.bound_along.Goals.{After-pair_bound, After-loop-entry}
 use Rattle.recurrence.proofs.bound_along.Goals as goal
 
--- The last entry is a task of the sheet.
-known : {s : Sheet} {chain : List ℕ} → ChainOn s chain → get_or chain (length chain - 1) 0 < s.count
-known {chain = chain} on = on.entry_below (length chain - 1) (omega (arith, on.some))
+pub loop-entry-init : goal.loop-entry-init
+loop-entry-init c = omega (arith, bound_start c.args.s c.args.chain.now)
 
--- What is left at the end is the last task's response.
-sum_is : {s : Sheet} {chain responses : List ℕ} → Responding s responses → ChainOn s chain
-    → (ticks j : ℕ) → j ≡ length chain - 1 → ticks + bound_from s chain j ≡ bound_by (tasks_of s) chain
-    → ticks + get_or responses (get_or chain (length chain - 1) 0) 0 ≡ bound_by (tasks_of s) chain
-sum_is {s} {chain} responding on ticks j at e = omega (
-  arith,
-  e,
-  ap (bound_from s chain) at,
-  bound_last s chain (length chain - 1) (omega (arith, on.some)),
-  responding.response_is (get_or chain (length chain - 1) 0) (known on),
-)
+pub bounds-s-c : goal.bounds-s-c
+bounds-s-c c =
+    let next = entry_is c.args.chain.now c.loop-entry.entry-index c.loop-entry-test.true in
+    omega (arith, next, c.requires.chain_on.entry_below (c.loop-entry.entry-index + 1) next.0, c.requires.sound.count_most)
 
-pub overflow_sub-last : goal.overflow_sub-last
-overflow_sub-last c = c.requires.chain_on.some
+-- A pair more.
+taken : (c : After-pair_bound) → let l = c.loop-entry in
+    (l.ticks + c.pair_bound.result + bound_from c.args.s c.args.chain.now (l.entry-index + 1) ≡ bound_by (tasks_of c.args.s) c.args.chain.now)
+    × (l.ticks + c.pair_bound.result ≤ most_bound)
+taken c =
+    let l = c.loop-entry in
+    let next = entry_is c.args.chain.now l.entry-index c.loop-entry-test.true in
+    pair_taken c.requires.sound c.requires.responding c.requires.chain_on l.entry-index next.0 l.ticks l.invariant.at next.1 l.invariant.so_far c.pair_bound.ensures
 
-pub loop-j-init : goal.loop-j-init
-loop-j-init c = (omega arith, omega (arith, bound_start c.args.s c.args.chain.now))
+pub overflow_cast-ticks : goal.overflow_cast-ticks
+overflow_cast-ticks c = omega (arith, taken (goal.at.overflow_cast-ticks c).After-pair_bound)
 
-pub pair_bound-ticks-requires : goal.pair_bound-ticks-requires
-pair_bound-ticks-requires c =
-    let on = c.requires.chain_on in
+pub overflow_add-ticks : goal.overflow_add-ticks
+overflow_add-ticks c = omega (arith, taken (goal.at.overflow_add-ticks c).After-pair_bound)
+
+pub loop-entry-preserved : goal.loop-entry-preserved
+loop-entry-preserved c =
     record {
-      sound = c.requires.sound;
-      responding = c.requires.responding;
-      p_lt_count = (on.entry_below c.loop-j.j (omega arith), on.entry_below (c.loop-j.j + 1) (omega arith));
+      so_far = (taken (goal.at.loop-entry-preserved c).After-pair_bound).0;
+      at = (entry_is c.args.chain.now c.loop-entry.entry-index c.loop-entry-test.true).1;
     }
 
--- A pair is taken from what is left, so the sum stays small.
-pub overflow_add-ticks : goal.overflow_add-ticks
-overflow_add-ticks c =
-    omega (
-      arith,
-      c.loop-j.invariant.1,
-      c.pair_bound-ticks.ensures,
-      bound_turn c.args.s c.args.chain.now c.loop-j.j (omega arith),
-      bound_small c.requires.sound c.requires.responding c.requires.chain_on,
-    )
-
-pub loop-j-preserved : goal.loop-j-preserved
-loop-j-preserved c =
-    (omega arith, omega (arith, c.loop-j.invariant.1, c.pair_bound-ticks.ensures, bound_turn c.args.s c.args.chain.now c.loop-j.j (omega arith)))
-
-pub overflow_cast-p-2 : goal.overflow_cast-p-2
-overflow_cast-p-2 c = omega (arith, known c.requires.chain_on, c.requires.sound.count_most)
-
-pub offset_bounds-responses-p : goal.offset_bounds-responses-p
-offset_bounds-responses-p c = omega (arith, known c.requires.chain_on, c.requires.sound.count_most)
-
-pub bounds-responses-p : goal.bounds-responses-p
-bounds-responses-p c = omega (arith, known c.requires.chain_on, c.requires.sound.count_most)
+-- All pairs are taken.
+all_taken : (c : After-loop-entry) → let l = c.loop-entry in
+    (l.ticks + get_or c.args.responses.now l.p 0 ≡ bound_by (tasks_of c.args.s) c.args.chain.now)
+    × (l.ticks + get_or c.args.responses.now l.p 0 ≤ most_bound)
+all_taken c =
+    let l = c.loop-entry in
+    let chain = c.args.chain.now in
+    pairs_taken c.requires.sound c.requires.responding c.requires.chain_on l.entry-index l.ticks
+    (omega (arith, c.requires.chain_on.some, length-take (length chain - 1) (drop 1 chain), length-drop 1 chain)) l.invariant.at l.invariant.so_far
 
 pub overflow_add-result : goal.overflow_add-result
-overflow_add-result c =
-    omega (
-      arith,
-      sum_is c.requires.responding c.requires.chain_on c.loop-j.ticks c.loop-j.j (omega arith) c.loop-j.invariant.1,
-      bound_small c.requires.sound c.requires.responding c.requires.chain_on,
-    )
+overflow_add-result c = omega (arith, all_taken (goal.at.overflow_add-result c).After-loop-entry)
 
 pub returns : goal.returns
-returns c = sum_is c.requires.responding c.requires.chain_on c.loop-j.ticks c.loop-j.j (omega arith) c.loop-j.invariant.1
+returns c = (all_taken (goal.at.returns c).After-loop-entry).0

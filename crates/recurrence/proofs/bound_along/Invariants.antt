@@ -1,12 +1,11 @@
-use mathlib.Core.Path.{◌≡◌}
-use Prim.Native.Nat.{◌+◌, ◌-◌, ◌≤◌}
+use Rattle.std.proofs.Common.{◌≡◌, ◌+◌, get_or}
 use Rattle.sheet.specs.Tasks.{tasks_of}
 use Rattle.recurrence.specs.Calls.{bound_by}
 use Rattle.recurrence.specs.BoundLaws.{bound_from}
 use Rattle.recurrence.proofs.bound_along.Given as goal
 
-abbrev pub invariant-loop-j : goal.invariant-loop-j
-invariant-loop-j l = (l.j ≤ l.last) × (l.ticks + bound_from l.s l.chain l.j ≡ bound_by (tasks_of l.s) l.chain)
-
-abbrev pub decreases-loop-j : goal.decreases-loop-j
-decreases-loop-j l = l.last - l.j
+abbrev pub invariant-loop-entry : goal.invariant-loop-entry
+invariant-loop-entry l = record {
+  so_far : l.ticks + bound_from l.s l.chain l.entry-index ≡ bound_by (tasks_of l.s) l.chain;
+  at : l.p ≡ get_or l.chain l.entry-index 0;
+}

@@ -1,10 +1,6 @@
-use mathlib.Core.Path.{◌≡◌}
-use Prim.Native.Nat.{◌-◌, ◌≤◌}
+use Rattle.std.proofs.Common.{◌≡◌, take}
 use Rattle.recurrence.specs.Conditions.{claim_in}
 use Rattle.recurrence.proofs.claim.Given as goal
 
-abbrev pub invariant-loop-p : goal.invariant-loop-p
-invariant-loop-p l = (l.p ≤ l.size) × (l.ticks ≡ claim_in l.periods l.budgets l.p l.own l.candidate)
-
-abbrev pub decreases-loop-p : goal.decreases-loop-p
-decreases-loop-p l = l.size - l.p
+abbrev pub invariant-loop-task : goal.invariant-loop-task
+invariant-loop-task l = l.ticks ≡ claim_in (take l.task-index l.outranking) l.own l.candidate

@@ -1,9 +1,9 @@
-use Prim.Native.Nat.{◌-◌}
-use Rattle.recurrence.specs.ClaimLaws.{GatheredTo}
+use Rattle.std.proofs.Common.{◌≡◌, ◌≤◌, ltb, filter, length, take}
 use Rattle.recurrence.proofs.gather.Given as goal
 
-abbrev pub invariant-loop-j : goal.invariant-loop-j
-invariant-loop-j l = GatheredTo l.s l.i l.periods l.budgets l.size l.j
-
-abbrev pub decreases-loop-j : goal.decreases-loop-j
-decreases-loop-j l = l.n - l.j
+abbrev pub invariant-loop-task : goal.invariant-loop-task
+invariant-loop-task l = record {
+  are : take l.size l.outranking ≡ filter (λ t. ltb l.rank t.rank) (take l.task-index l.task-items);
+  room : length l.outranking ≡ 16;
+  few : l.size ≤ l.task-index;
+}

@@ -1,33 +1,44 @@
 -- After i turns the greatest-ranked of the first i that passes its period is found.
-use mathlib.Core.Path.{sym, ap, ◌∙◌}
-use Prim.Native.Nat.{◌<◌}
-use native.Mathlib.Omega.{arith}
-use Rattle.sheet.specs.Lateness.{lateness}
-use Rattle.recurrence.specs.CallLaws.{slot_of, found_start, found_more, found_lower, found_same, found_all, some_slot}
-use Rattle.recurrence.proofs.passing.Goals.{then-t-responses+then-above-rank, then-t-responses+else-above-rank, else-t-responses}
+use Rattle.std.proofs.Common.{◌≡◌, refl, sym, ap, ◌∙◌, subst, arith}
+use Rattle.theory.specs.Model.Greatest.{greatest}
+use Rattle.recurrence.specs.CallLaws.{FoundTo, takes, found_known, found_more, found_lower, found_same, found_all}
+use Rattle.recurrence.proofs.passing.Goals.{Joined-task-responses, in-Some, in-None, then-task-responses+then-outranks, else-task-responses, else-task-responses-via-then-task-responses+else-outranks, else-task-responses-via-else-task-responses}
 use Rattle.recurrence.proofs.passing.Goals as goal
 
 pub loop-i-init : goal.loop-i-init
-loop-i-init c = (omega arith, found_start c.args.s)
+unfolding greatest
+loop-i-init c = refl
+
+pub bounds-s-j : goal.bounds-s-j
+bounds-s-j c =
+    let l = c.loop-i in
+    omega (arith, found_known c.args.s l.i c.in-Some.j (subst (FoundTo c.args.s l.i) c.in-Some.is l.invariant), c.requires.sound.count_most)
+
+-- Whether the task takes the place of the one so far, which is at hand still.
+taken : (c : Joined-task-responses) → (c.match-late.outranks ≡ takes c.args.s c.loop-i.i c.loop-i.late) × (c.match-late.late ≡ c.loop-i.late)
+taken c =
+    elim c.match-late.branch [
+      | in-Some w ↦ (w.outranks-is ∙ ap (takes c.args.s c.loop-i.i) (sym w.in-Some.is), w.late-is ∙ sym w.in-Some.is)
+      | in-None w ↦ (w.outranks-is ∙ ap (takes c.args.s c.loop-i.i) (sym w.in-None.is), w.late-is)
+    ]
 
 pub loop-i-preserved : goal.loop-i-preserved
 loop-i-preserved c =
     let l = c.loop-i in
-    let known : l.i < c.args.s.count = omega arith in (
-      omega arith,
-      elim c.if-t-responses.branch [
-        | then-t-responses+then-above-rank w ↦ rw (w.above-is, w.found-is) (found_more c.args.s c.requires.sound c.requires.responses_value known l.invariant.1 w.if-t-responses.true (omega (arith, w)))
-        | then-t-responses+else-above-rank w ↦ rw (w.above-is, w.found-is) (found_lower c.args.s c.requires.sound c.requires.responses_value known l.invariant.1 w.if-t-responses.true (omega (arith, w)))
-        | else-t-responses w ↦ rw (w.above-is, w.found-is) (found_same c.args.s c.requires.sound c.requires.responses_value known l.invariant.1 w.if-t-responses.false)
-      ],
-    )
+    let s = c.args.s in
+    let ok = c.requires.sound in
+    let are = c.requires.responses_value in
+    let t = taken c in
+    elim c.if-task-responses.branch [
+      | then-task-responses+then-outranks w ↦ rw w.late-is (found_more s ok are l.i c.loop-i-test.true l.late l.invariant w.if-task-responses.true (sym t.0 ∙ w.if-outranks.true))
+      | else-task-responses w ↦ rw (w.late-is, t.1) (elim w.else-task-responses.branch [
+        | else-task-responses-via-then-task-responses+else-outranks w' ↦ found_lower s ok are l.i c.loop-i-test.true l.late l.invariant w'.if-task-responses.true (sym t.0 ∙ w'.if-outranks.false)
+        | else-task-responses-via-else-task-responses w' ↦ found_same s ok are l.i c.loop-i-test.true l.late l.invariant w'.if-task-responses.false
+      ])
+    ]
 
-pub returns-then-above-eq0 : goal.returns-then-above-eq0
-returns-then-above-eq0 c =
-    let l = c.loop-i in
-    sym (ap lateness (found_all c.requires.sound (omega arith) l.invariant.1 ∙ ap (λ x. slot_of x l.found) c.if-above-eq0.true))
+pub returns-in-Some-late : goal.returns-in-Some-late
+returns-in-Some-late c = sym (found_all c.args.s c.requires.sound c.loop-i.late (omega arith) c.loop-i.invariant c.in-Some-late.is)
 
-pub returns : goal.returns
-returns c =
-    let l = c.loop-i in
-    sym (ap lateness (found_all c.requires.sound (omega arith) l.invariant.1 ∙ some_slot l.above l.found (omega (arith, c.if-above-eq0.false))))
+pub returns-in-None-late : goal.returns-in-None-late
+returns-in-None-late c = sym (found_all c.args.s c.requires.sound c.loop-i.late (omega arith) c.loop-i.invariant c.in-None-late.is)

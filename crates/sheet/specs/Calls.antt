@@ -1,6 +1,7 @@
 -- What reading, judging and writing a timing sheet answer, and what they leave in memory.
-use Rattle.std.specs.Prelude.{Bool, false, cond, List, [], ◌∷◌, ◌++◌, ℕ, zero, suc, ◌+◌, ◌-◌, ◌*◌, ◌<◌, min, ltb, eqb, length, get_or}
+use Rattle.std.specs.Prelude.{Bool, cond, List, [], ◌∷◌, ◌++◌, ℕ, zero, suc, ◌+◌, ◌*◌, ◌<◌, min, ltb, eqb, length}
 use Rattle.bits.specs.Bits.{bits, unpack, number, list_of, bytes_for, bytes_of, written}
+pub use Rattle.bits.specs.Bits.{first_one, wrong_bit}
 use Rattle.theory.specs.declared.Task.{Task}
 use Rattle.theory.specs.Model.Schedule.{none}
 use Rattle.sheet.specs.declared.Sheet.{Sheet}
@@ -151,15 +152,6 @@ judged_whole room v at f = also (when (ltb room (at + width f)) 1) (judged (kind
 
 abbrev pub judged_in : ℕ → Values → ℕ → Field → Judgement
 judged_in room v at f = with_offset at (judged_whole room v at f)
-
--- The first bit that is 1 of the w bits from place `at` on, or the bit after them if none is.
-unfoldable pub first_one : List Bool → ℕ → ℕ → ℕ
-first_one bs at zero = at
-first_one bs at (suc w) = cond (get_or bs at false) at (first_one bs (suc at) w)
-
--- The first bit that is wrong after the last field: one that is 1 before the end of the byte, or else the first of a byte that follows.
-abbrev pub wrong_bit : List Bool → ℕ → ℕ
-wrong_bit bs end = first_one bs end (bytes_for end * 8 - end)
 
 -- "a bit after the last field is 1, or a byte follows the last needed", with "the earlier of the first wrong bit and the surplus byte's first"
 abbrev pub tail_of : List ℕ → ℕ → Judgement

@@ -1,5 +1,6 @@
 -- Laws of one field: its width, and one value among others.
-use Rattle.std.specs.Prelude.{◌≡◌, refl, true, false, cond, ℕ, zero, suc, ◌-◌, ◌≤◌, ◌<◌, eqb}
+use Rattle.std.specs.Prelude.{◌≡◌, refl, Bool, true, false, cond, ◌||◌, List, [], ◌∷◌, ℕ, zero, suc, ◌-◌, ◌≤◌, ◌<◌, eqb, length, get_or, take}
+use Rattle.std.specs.List.{list_any}
 use Rattle.std.proofs.Common.{ap, ap₂, ◌∙◌, arith, eq-eqb, ne_eqb}
 use Rattle.sheet.specs.declared.Field.{Field}
 use Rattle.sheet.specs.declared.Field.TheVariants.{Mark, Edition, Count, Period, Budget, Rank, Chains, Limit, Length, Entry}
@@ -32,6 +33,27 @@ among_past f (suc i) v h e = ap (λ b. cond b true (among f i v)) (ne_eqb (f i) 
 pub among_none : (f : ℕ → ℕ) (i v : ℕ) → i ≡ 0 → among f i v ≡ false
 unfolding among
 among_none f i v e = ap (λ j. among f j v) e
+
+-- by a list of the values
+or_turned : (a b c : Bool) → cond a true (b || c) ≡ (b || cond a true c)
+or_turned true true c = refl
+or_turned true false c = refl
+or_turned false b c = refl
+
+or_none : (b : Bool) → cond b true false ≡ (b || false)
+or_none true = refl
+or_none false = refl
+
+among_front : (f : ℕ → ℕ) (i v : ℕ) → among f (suc i) v ≡ (eqb (f 0) v || among (λ j. f (suc j)) i v)
+unfolding among
+among_front f zero v = or_none (eqb (f 0) v)
+among_front f (suc i) v = ap (cond (eqb (f (suc i)) v) true) (among_front f i v) ∙ or_turned (eqb (f (suc i)) v) (eqb (f 0) v) (among (λ j. f (suc j)) i v)
+
+pub among_list : {A : Type 0} (g : A → ℕ) (d : A) (xs : List A) (i v : ℕ) → i ≤ length xs → among (λ j. g (get_or xs j d)) i v ≡ list_any (λ x. eqb (g x) v) (take i xs)
+unfolding among
+among_list g d xs zero v h = refl
+among_list g d [] (suc i) v h = absurd (omega arith)
+among_list g d (x ∷ xs) (suc i) v h = among_front (λ j. g (get_or (x ∷ xs) j d)) i v ∙ ap (λ b. eqb (g x) v || b) (among_list g d xs i v (omega arith))
 
 pub among_same : (f g : ℕ → ℕ) (i v : ℕ) → ((j : ℕ) → j < i → f j ≡ g j) → among f i v ≡ among g i v
 unfolding among

@@ -1,12 +1,12 @@
 -- Laws of judging fields in order: what is fine, what is left, and what room does.
-use Rattle.std.specs.Prelude.{◌≡◌, Bool, true, false, ℕ, ◌+◌, ◌≤◌, ◌<◌, ltb}
+use Rattle.std.specs.Prelude.{◌≡◌, Bool, true, false, ℕ, ◌+◌, ◌≤◌, ◌<◌, ltb, Result, Ok, Err}
 use Rattle.std.proofs.Math.Path.{refl, ap₂}
-use Rattle.std.proofs.Common.{ap, ltb-false, lt-ltb, le-ltb}
+use Rattle.std.proofs.Common.{sym, ap, ◌∙◌, ltb-false, lt-ltb, le-ltb}
 use mathlib.Core.List.{List, [], ◌∷◌}
 use native.Mathlib.Omega.{arith}
 use Rattle.sheet.specs.declared.Field.{Field}
 use Rattle.answers.specs.declared.Refusal.{Refusal}
-use Rattle.answers.specs.Answers.{given, refused, Judgement, fine, when, also, refusal}
+use Rattle.answers.specs.Answers.{Answer, given, refused, Judgement, fine, when, also, number_in, values_in, refusal, told}
 use Rattle.answers.specs.AnswerLaws.{refused_given, when_fine, also_given}
 use Rattle.sheet.specs.Fields.{Values, kind_of, width, widths, judged, offset, with_offset, in_order}
 use Rattle.sheet.specs.Calls.{judged_on, judged_in, judged_whole}
@@ -27,6 +27,18 @@ refused_when false r number e = refl
 pub refused_offset : (b : Bool) (r : Refusal) (number at : ℕ) → ◌≡◌ {A = Judgement} (refusal r) (refused number (offset number at)) → refused_if b r ≡ with_offset at (when b number)
 refused_offset true r number at e = e
 refused_offset false r number at e = refl
+
+-- the refusal of the fields, or none, where the end is answered beside it
+pub judged_no : {w : Result ℕ Refusal} {r : Refusal} (j : Judgement) (end : ℕ) → told w ≡ also j (given end) → w ≡ Err r → j ≡ refusal r
+judged_no (given u) end e p = refused_given (ap told (sym p) ∙ e)
+judged_no {r = r} (refused number values) end e p =
+    let q : ◌≡◌ {A = Answer ℕ} (refused number values) (refusal r) = sym e ∙ ap told p in
+    let n : number ≡ number_in r = cc in
+    let vs : values ≡ values_in r = cc in
+    ap₂ refused n vs
+
+pub judged_fine : {w : Result ℕ Refusal} {k : ℕ} (j : Judgement) (end : ℕ) → told w ≡ also j (given end) → w ≡ Ok k → (j ≡ fine) × (k ≡ end)
+judged_fine {k = k} j end e p = let both = also_given j (given end) (sym e ∙ ap told p) in let g = both.1 in (both.0, cc)
 
 -- ---- fields in order
 

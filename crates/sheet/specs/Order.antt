@@ -1,5 +1,5 @@
 -- How the code goes through the fields and reads them, in names that no promise of a call needs.
-use Rattle.std.specs.Prelude.{Bool, true, false, cond, List, ℕ, ◌+◌, ◌*◌, ltb, leb, eqb, get_or}
+use Rattle.std.specs.Prelude.{Bool, true, false, cond, List, ℕ, ◌+◌, ◌*◌, ◌<◌, ltb, leb, Option, Some, None}
 use Rattle.bits.specs.Bits.{number}
 use Rattle.theory.specs.declared.Task.{Task}
 use Rattle.sheet.specs.declared.Chain.{Chain}
@@ -7,122 +7,73 @@ use Rattle.sheet.specs.declared.Sheet.{Sheet}
 use Rattle.sheet.specs.declared.Field.{Field}
 use Rattle.sheet.specs.declared.Field.TheVariants.{Mark, Edition, Count, Period, Budget, Rank, Chains, Limit, Length, Entry}
 use Rattle.answers.specs.declared.Refusal.{Refusal}
-use Rattle.answers.specs.Answers.{Judgement, fine, when, also, refusal}
-use Rattle.sheet.specs.Fields.{among, Values, Kind, old, new, tasks, entries, width, judged}
-use Rattle.sheet.specs.Calls.{places, sheet_by, extra, task_begin, tasks_in, spelt_by}
+use Rattle.answers.specs.Answers.{Answer, given, Judgement, fine, when, also, refusal}
+use Rattle.sheet.specs.Fields.{Values, Kind, old, new, tasks, chains, entries, fields, widths, among, in_order}
+use Rattle.sheet.specs.Calls.{places, sheet_by, tasks_in, spelt_by, judged_in}
 
--- What an edition says of a sheet.
-abbrev pub kind_by : ℕ → Kind
-kind_by edition = cond (eqb (cond (eqb edition 1) 0 31) 31) new old
-
--- The first field of a sheet, of chain c, of its chains, and of what begins with task i of n or entry i of m.
+-- The first field of a sheet, of chain c, of its chains, and of what begins with task i or entry i of chain c; none after the last chain.
 abbrev pub opening : Kind → Field
 opening new = Mark
 opening old = Count
 
-abbrev pub chain_opening : Kind → ℕ → Field
-chain_opening new c = Limit c
-chain_opening old c = Length c
+abbrev pub chain_head : Kind → ℕ → Field
+chain_head new c = Limit c
+chain_head old c = Length c
+
+abbrev pub chain_opening : Kind → Values → ℕ → Option Field
+chain_opening kind v c = cond (ltb c (chains kind v)) (Some (chain_head kind c)) None
 
 abbrev pub suite_opening : Kind → Field
 suite_opening new = Chains
 suite_opening old = Length 0
 
-abbrev pub task_opening : Kind → ℕ → ℕ → Field
-task_opening kind n i = cond (ltb i n) (Period i) (suite_opening kind)
+abbrev pub task_opening : Kind → Values → ℕ → Field
+task_opening kind v i = cond (ltb i (tasks v)) (Period i) (suite_opening kind)
 
-abbrev pub entry_opening : Kind → ℕ → ℕ → ℕ → Field
-entry_opening kind m c i = cond (ltb i m) (Entry c i) (chain_opening kind (c + 1))
-
--- The field after a field, with n tasks and, in its own chain, m entries.
-abbrev pub next : Kind → ℕ → ℕ → Field → Field
-next kind n m Mark = Edition
-next kind n m Edition = Count
-next kind n m Count = task_opening kind n 0
-next kind n m (Period i) = Budget i
-next kind n m (Budget i) = Rank i
-next kind n m (Rank i) = task_opening kind n (i + 1)
-next kind n m Chains = Limit 0
-next kind n m (Limit c) = Length c
-next kind n m (Length c) = entry_opening kind m c 0
-next kind n m (Entry c i) = entry_opening kind m c (i + 1)
-
--- The places that a field is in: which task, which chain, and which entry of it.
-abbrev pub task_in : Field → ℕ
-task_in Mark = 0
-task_in Edition = 0
-task_in Count = 0
-task_in (Period i) = i
-task_in (Budget i) = i
-task_in (Rank i) = i
-task_in Chains = 0
-task_in (Limit c) = 0
-task_in (Length c) = 0
-task_in (Entry c i) = 0
-
-abbrev pub chain_in : Field → ℕ
-chain_in Mark = 0
-chain_in Edition = 0
-chain_in Count = 0
-chain_in (Period i) = 0
-chain_in (Budget i) = 0
-chain_in (Rank i) = 0
-chain_in Chains = 0
-chain_in (Limit c) = c
-chain_in (Length c) = c
-chain_in (Entry c i) = c
-
-abbrev pub entry_in : Field → ℕ
-entry_in Mark = 0
-entry_in Edition = 0
-entry_in Count = 0
-entry_in (Period i) = 0
-entry_in (Budget i) = 0
-entry_in (Rank i) = 0
-entry_in Chains = 0
-entry_in (Limit c) = 0
-entry_in (Length c) = 0
-entry_in (Entry c i) = i
+abbrev pub entry_opening : Kind → Values → ℕ → ℕ → Option Field
+entry_opening kind v c i = cond (ltb i (entries v c)) (Some (Entry c i)) (chain_opening kind v (c + 1))
 
 -- The field after a field of a sheet that holds these values.
-abbrev pub after : Kind → Values → Field → Field
-after kind v f = next kind (tasks v) (entries v (chain_in f)) f
+abbrev pub after : Kind → Values → Field → Option Field
+after kind v Mark = Some Edition
+after kind v Edition = Some Count
+after kind v Count = Some (task_opening kind v 0)
+after kind v (Period i) = Some (Budget i)
+after kind v (Budget i) = Some (Rank i)
+after kind v (Rank i) = Some (task_opening kind v (i + 1))
+after kind v Chains = chain_opening kind v 0
+after kind v (Limit c) = Some (Length c)
+after kind v (Length c) = entry_opening kind v c 0
+after kind v (Entry c i) = entry_opening kind v c (i + 1)
 
--- Where the chains begin, and how many bits a chain has beside its entries.
-abbrev pub begins : Kind → Values → ℕ
-begins kind v = task_begin kind (tasks v) + extra kind (width Chains)
-
-abbrev pub chain_bits : Kind → ℕ
-chain_bits kind = extra kind (width (Limit 0)) + width (Length 0)
-
--- The value at a place of a list, 0 past its end.
-abbrev pub nth : List ℕ → ℕ → ℕ
-nth values i = get_or values i 0
+-- A field has its place: among sixteen tasks, eight chains and sixteen entries of each.
+abbrev pub Placed : Field → Type 0
+Placed Mark = Unit {0}
+Placed Edition = Unit {0}
+Placed Count = Unit {0}
+Placed (Period i) = i < 16
+Placed (Budget i) = i < 16
+Placed (Rank i) = i < 16
+Placed Chains = Unit {0}
+Placed (Limit c) = c < 8
+Placed (Length c) = c < 8
+Placed (Entry c i) = (c < 8) × (i < 16)
 
 -- "given when", as the code's own refusal
 abbrev pub refused_if : Bool → Refusal → Judgement
 refused_if true r = refusal r
 refused_if false r = fine
 
--- What is found of entry i of a chain with these entries, on a sheet of n tasks.
+-- What is found of rank i among these, and of entry i of a chain with these entries on a sheet of n tasks.
+abbrev pub rank_judged : (ℕ → ℕ) → ℕ → Judgement
+rank_judged r i = when (among r i (r i)) 5
+
 abbrev pub entry_judged : ℕ → (ℕ → ℕ) → ℕ → Judgement
 entry_judged n e i = also (when (leb n (e i)) 7) (when (among e i (e i)) 8)
 
--- What is found of a field, by the counts of its sheet, its own task and chain, and all ranks.
-abbrev pub around : ℕ → ℕ → ℕ → Task → List ℕ → Chain → Values
-around edition count suite task ranks chain Mark = cond (eqb edition 1) 0 31
-around edition count suite task ranks chain Edition = edition
-around edition count suite task ranks chain Count = count
-around edition count suite task ranks chain (Period i) = task.period
-around edition count suite task ranks chain (Budget i) = task.budget
-around edition count suite task ranks chain (Rank i) = nth ranks i
-around edition count suite task ranks chain Chains = suite
-around edition count suite task ranks chain (Limit c) = chain.limit
-around edition count suite task ranks chain (Length c) = chain.length
-around edition count suite task ranks chain (Entry c i) = nth chain.entries i
-
-abbrev pub judged_by : ℕ → ℕ → ℕ → Task → List ℕ → Chain → Field → Judgement
-judged_by edition count suite task ranks chain = judged (kind_by edition) (around edition count suite task ranks chain)
+-- What is found of the fields in so much room, with the bit after the last one.
+abbrev pub fields_judged : ℕ → Values → Answer ℕ
+fields_judged room v = also (in_order (judged_in room v) 0 (fields v)) (given (widths (fields v)))
 
 -- What bits hold in the fields of a task, and of a chain whose limit takes w bits.
 abbrev pub task_at : List Bool → ℕ → Task

@@ -1,11 +1,15 @@
 -- Laws of the places: sixteen of tasks and of entries, eight of chains.
-use Rattle.std.specs.Prelude.{◌≡◌, ◌≢◌, Bool, true, false, cond, ℕ, ◌+◌, ◌<◌, min, ltb, length, get_or, set}
+use Rattle.std.specs.Prelude.{◌≡◌, refl, ◌≢◌, Bool, true, false, cond, List, ℕ, ◌+◌, ◌<◌, min, ltb, length, get_or, set}
 use Rattle.std.proofs.Common.{sym, ap, ◌∙◌, subst, arith, length-set, ext_get_or, get_or-set_same, get_or-set_other, lt-ltb, le-ltb}
 use Rattle.std.proofs.Math.Decide.{ℕ_discrete, dec_lt}
 use Rattle.std.proofs.Math.ListN.{get_or-eq_default}
 use Rattle.bits.specs.Bits.{list_of}
 use Rattle.bits.specs.Lists.{length_list_of, get_d_list_of, list_of_same}
-use Rattle.sheet.specs.Calls.{places}
+use Rattle.std.specs.Array.{AllOfLen}
+use Rattle.theory.specs.declared.Task.{Task}
+use Rattle.theory.specs.Model.Schedule.{none}
+use Rattle.sheet.specs.declared.Chain.{Chain}
+use Rattle.sheet.specs.Calls.{places, unused}
 
 module _ {A : Type 0} (room : ℕ) (blank : A) (f : ℕ → A) where
   pub length_places : (k : ℕ) → length (places room blank k f) ≡ room
@@ -70,3 +74,16 @@ places_same room blank k f g h = list_of_same room (λ i. cond (ltb i k) (f i) b
 -- none is taken of none
 pub places_none : {A : Type 0} (room : ℕ) (blank : A) (f : ℕ → A) → places room blank 0 f ≡ list_of room (λ i. blank)
 places_none room blank f = list_of_same room (λ i. cond (ltb i 0) (f i) blank) (λ i. blank) (λ i h. ap (λ b. cond b (f i) blank) (le-ltb i 0 (omega arith)))
+
+-- ---- what derived blanks are
+
+pub task_none : (t : Task) → t.period ≡ 0 → t.budget ≡ 0 → t.rank ≡ 0 → t ≡ none
+task_none t a b c = λ i. record { period = a i; budget = b i; rank = c i }
+
+entries_none : (xs : List ℕ) → AllOfLen (λ x. x ≡ 0) xs 16 → xs ≡ places 16 0 0 (λ i. 0)
+entries_none xs h =
+    ext_get_or 0 xs (places 16 0 0 (λ i. 0)) (h.long ∙ sym (length_places 16 0 (λ i. 0) 0))
+    (λ i l. h.at i 0 (omega (arith, h.long)) ∙ sym (places_every 16 0 (λ i. 0) (λ x. x ≡ 0) 0 refl (λ i. refl) i))
+
+pub chain_unused : (x : Chain) → AllOfLen (λ x. x ≡ 0) x.entries 16 → x.length ≡ 0 → x.limit ≡ 0 → x ≡ unused
+chain_unused x a b c = let e = entries_none x.entries a in λ i. record { entries = e i; length = b i; limit = c i }

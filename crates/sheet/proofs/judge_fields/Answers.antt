@@ -1,124 +1,100 @@
 -- The fields that are left decide what all of them would, and the next begins where the last ended.
+use Rattle.std.specs.Prelude.{Some}
 use mathlib.Core.Path.{refl, sym, ap, ap₂, ◌∙◌, subst}
 use Prim.Native.Nat.{ℕ, ◌+◌, ◌*◌}
 use native.Mathlib.Omega.{arith}
-use lib.ListN.{get_or}
-use Rattle.theory.specs.Model.Schedule.{none}
 use Rattle.std.proofs.lemmas.Result.{err_from_is_err_and}
-use Rattle.answers.specs.Answers.{also}
+use Rattle.answers.specs.Answers.{given, also}
 use Rattle.answers.specs.AnswerLaws.{also_no, also_fine}
-use Rattle.sheet.specs.Fields.{kind_of, entries, fields, width, idle, value, with_offset, in_order}
+use Rattle.sheet.specs.Fields.{kind_of, fields, width, widths, value, in_order}
 use Rattle.sheet.specs.Calls.{judged_in}
-use Rattle.sheet.specs.Order.{next, after, judged_by}
+use Rattle.sheet.specs.Order.{after}
 use Rattle.sheet.specs.InOrderLaws.{in_order_step, in_order_none, judged_short, judged_whole_lem}
 use Rattle.sheet.specs.FieldLaws.{width_small}
-use Rattle.sheet.specs.StepLaws.{Left, left_all, left_none, left_step, left_placed, judged_around}
+use Rattle.sheet.specs.SizeLaws.{ends_by}
+use Rattle.sheet.specs.StepLaws.{Left, left_all, left_none, left_step}
 use Rattle.sheet.proofs.judge_fields.Goals as goal
 
-pub loop-at-init : goal.loop-at-init
-loop-at-init c =
-    let v = value c.args.s in
-    let end = c.end_of-end.ensures in
-    (end.0, end.1, fields v, subst (λ f. Left v f 0 (fields v)) (sym c.opening_of-f.ensures) (left_all v), refl)
+pub loop-next-init : goal.loop-next-init
+loop-next-init c =
+    let v = value c.args.s.now in
+    (fields v, subst (λ f. Left v f 0 (fields v)) (ap Some (sym c.opening_of.ensures)) (left_all v), refl)
 
-pub overflow_add-next : goal.overflow_add-next
-overflow_add-next c = let l = c.loop-at in omega (arith, c.width_of.ensures, width_small l.f, l.invariant.1)
+pub overflow_add-end : goal.overflow_add-end
+overflow_add-end c =
+    let v = value c.args.s.now in
+    let l = c.loop-next in
+    let step = left_step v c.in-Some.f l.at l.invariant.0 (subst (λ f. Left v f l.at l.invariant.0) c.in-Some.is l.invariant.1) in
+    omega (arith, c.width_of.ensures, step.room, ends_by v)
 
-pub overflow_add-next-in-loop-at : goal.overflow_add-next-in-loop-at
-overflow_add-next-in-loop-at c = let l = c.loop-at in omega (arith, c.width_of.ensures, width_small l.f, l.invariant.1)
-
-pub returns-then-len-next : goal.returns-then-len-next
-returns-then-len-next c =
-    let a = c.args in
-    let v = value a.s in
-    let room : ℕ = a.len * 8 in
+pub returns-then-len-div_ceil : goal.returns-then-len-div_ceil
+returns-then-len-div_ceil c =
+    let v = value c.args.s.now in
+    let room : ℕ = c.args.len * 8 in
     let judge = judged_in room v in
-    let l = c.loop-at in
-    let step = left_step v l.f l.at l.invariant.2 l.invariant.3 (omega (arith, l.invariant.0)) in
-    let left = in_order judge (l.at + width l.f) step.rest in
-    sym (l.invariant.4 ∙ in_order_step step.is judge l.at ∙ ap (λ j. also j left) (judged_short room v l.at l.f (omega (arith, c.width_of.ensures))))
+    let l = c.loop-next in
+    let f = c.in-Some.f in
+    let step = left_step v f l.at l.invariant.0 (subst (λ f. Left v f l.at l.invariant.0) c.in-Some.is l.invariant.1) in
+    let left = in_order judge (l.at + width f) step.rest in
+    sym (ap (λ j. also j (given (widths (fields v))))
+    (l.invariant.2 ∙ in_order_step step.is judge l.at ∙ ap (λ j. also j left) (judged_short room v l.at f (omega (arith, c.width_of.ensures, c.div_ceil.ensures)))))
 
-pub offset_bounds-s-i : goal.offset_bounds-s-i
-offset_bounds-s-i c =
-    let v = value c.args.s in
-    let l = c.loop-at in
-    omega (arith, c.task_in-i.ensures, left_placed v l.f l.at l.invariant.2 l.invariant.3 (omega (arith, l.invariant.0)))
-
-pub bounds-s-i : goal.bounds-s-i
-bounds-s-i c =
-    let v = value c.args.s in
-    let l = c.loop-at in
-    omega (arith, c.task_in-i.ensures, left_placed v l.f l.at l.invariant.2 l.invariant.3 (omega (arith, l.invariant.0)))
-
-pub offset_bounds-s-c : goal.offset_bounds-s-c
-offset_bounds-s-c c =
-    let v = value c.args.s in
-    let l = c.loop-at in
-    omega (arith, c.chain_in-c.ensures, left_placed v l.f l.at l.invariant.2 l.invariant.3 (omega (arith, l.invariant.0)))
-
-pub bounds-s-c : goal.bounds-s-c
-bounds-s-c c =
-    let v = value c.args.s in
-    let l = c.loop-at in
-    omega (arith, c.chain_in-c.ensures, left_placed v l.f l.at l.invariant.2 l.invariant.3 (omega (arith, l.invariant.0)))
+pub judge_field-requires : goal.judge_field-requires
+judge_field-requires c =
+    let v = value c.args.s.now in
+    let l = c.loop-next in
+    (left_step v c.in-Some.f l.at l.invariant.0 (subst (λ f. Left v f l.at l.invariant.0) c.in-Some.is l.invariant.1)).place
 
 pub returns-in_err-judge_field : goal.returns-in_err-judge_field
 returns-in_err-judge_field c =
-    let a = c.args in
-    let v = value a.s in
-    let ranks = c.ranks_of-ranks.result in
-    let room : ℕ = a.len * 8 in
+    let v = value c.args.s.now in
+    let room : ℕ = c.args.len * 8 in
     let judge = judged_in room v in
-    let l = c.loop-at in
-    let step = left_step v l.f l.at l.invariant.2 l.invariant.3 (omega (arith, l.invariant.0)) in
-    let left = in_order judge (l.at + width l.f) step.rest in
-    let found = c.judge_field.ensures
-    ∙ ap₂ (λ i j. with_offset l.at (judged_by a.s.edition a.s.count a.s.suite (get_or a.s.tasks i none) ranks (get_or a.s.chains j idle) l.f)) c.task_in-i.ensures c.chain_in-c.ensures
-    ∙ ap (with_offset l.at) (judged_around a.s ranks l.f c.ranks_of-ranks.ensures) in
+    let l = c.loop-next in
+    let f = c.in-Some.f in
+    let step = left_step v f l.at l.invariant.0 (subst (λ f. Left v f l.at l.invariant.0) c.in-Some.is l.invariant.1) in
+    let left = in_order judge (l.at + width f) step.rest in
     let p = err_from_is_err_and c.from_residual.result c.from_residual.ensures.1 in
-    rw (p.1, p.2) (sym (l.invariant.4 ∙ in_order_step step.is judge l.at
-    ∙ ap (λ j. also j left) (judged_whole_lem room v l.at l.f (omega (arith, c.if-len-next.false, c.width_of.ensures)))
-    ∙ also_no left found c.in_err-judge_field.was))
+    rw (p.1, p.2) (sym (ap (λ j. also j (given (widths (fields v))))
+    (l.invariant.2 ∙ in_order_step step.is judge l.at
+    ∙ ap (λ j. also j left) (judged_whole_lem room v l.at f (omega (arith, c.if-len-div_ceil.false, c.width_of.ensures, c.div_ceil.ensures)))
+    ∙ also_no left c.judge_field.ensures c.in_err-judge_field.was)))
 
-pub next_of-f-requires : goal.next_of-f-requires
-next_of-f-requires c =
-    let v = value c.args.s in
-    let l = c.loop-at in
-    left_placed v l.f l.at l.invariant.2 l.invariant.3 (omega (arith, l.invariant.0))
+pub next_of-next-requires : goal.next_of-next-requires
+next_of-next-requires c =
+    let v = value c.args.s.now in
+    let l = c.loop-next in
+    (left_step v c.in-Some.f l.at l.invariant.0 (subst (λ f. Left v f l.at l.invariant.0) c.in-Some.is l.invariant.1)).place
 
-pub loop-at-smaller : goal.loop-at-smaller
-loop-at-smaller c =
-    omega (arith, c.width_of.ensures, width_small c.loop-at.f)
+pub loop-next-smaller : goal.loop-next-smaller
+loop-next-smaller c =
+    let v = value c.args.s.now in
+    let l = c.loop-next in
+    let step = left_step v c.in-Some.f l.at l.invariant.0 (subst (λ f. Left v f l.at l.invariant.0) c.in-Some.is l.invariant.1) in
+    omega (arith, c.width_of.ensures, width_small c.in-Some.f, step.room, ends_by v)
 
-pub loop-at-preserved : goal.loop-at-preserved
-loop-at-preserved c =
-    let a = c.args in
-    let v = value a.s in
-    let ranks = c.ranks_of-ranks.result in
-    let room : ℕ = a.len * 8 in
+pub loop-next-preserved : goal.loop-next-preserved
+loop-next-preserved c =
+    let v = value c.args.s.now in
+    let room : ℕ = c.args.len * 8 in
     let judge = judged_in room v in
-    let l = c.loop-at in
-    let step = left_step v l.f l.at l.invariant.2 l.invariant.3 (omega (arith, l.invariant.0)) in
-    let left = in_order judge (l.at + width l.f) step.rest in
-    let found = c.judge_field.ensures
-    ∙ ap₂ (λ i j. with_offset l.at (judged_by a.s.edition a.s.count a.s.suite (get_or a.s.tasks i none) ranks (get_or a.s.chains j idle) l.f)) c.task_in-i.ensures c.chain_in-c.ensures
-    ∙ ap (with_offset l.at) (judged_around a.s ranks l.f c.ranks_of-ranks.ensures) in
-    let w = c.width_of.ensures in
-    let after_is = c.next_of-f.ensures ∙ ap₂ (λ n m. next (kind_of v) n m l.f) c.tasks_of-tasks.ensures (c.taken.ensures ∙ ap (entries v) c.chain_in-c.ensures) in (
-      l.invariant.0,
-      l.invariant.1,
+    let l = c.loop-next in
+    let f = c.in-Some.f in
+    let step = left_step v f l.at l.invariant.0 (subst (λ f. Left v f l.at l.invariant.0) c.in-Some.is l.invariant.1) in
+    let left = in_order judge (l.at + width f) step.rest in
+    let w = c.width_of.ensures in (
       step.rest,
-      subst (λ f. Left v f (l.at + c.width_of.result) step.rest) (sym after_is)
-          (subst (λ k. Left v (after (kind_of v) v l.f) (l.at + k) step.rest) (sym w) step.later),
-      l.invariant.4 ∙ in_order_step step.is judge l.at
-          ∙ ap (λ j. also j left) (judged_whole_lem room v l.at l.f (omega (arith, c.if-len-next.false, w)))
-          ∙ also_fine left found c.in_ok-judge_field.was
+      subst (λ n. Left v n (l.at + c.width_of.result) step.rest) (sym c.next_of-next.ensures)
+          (subst (λ k. Left v (after (kind_of v) v f) (l.at + k) step.rest) (sym w) step.later),
+      l.invariant.2 ∙ in_order_step step.is judge l.at
+          ∙ ap (λ j. also j left) (judged_whole_lem room v l.at f (omega (arith, c.if-len-div_ceil.false, w, c.div_ceil.ensures)))
+          ∙ also_fine left c.judge_field.ensures c.in_ok-judge_field.was
           ∙ ap (λ k. in_order judge (l.at + k) step.rest) (sym w),
     )
 
 pub returns : goal.returns
 returns c =
-    let a = c.args in
-    let v = value a.s in
-    let l = c.loop-at in
-    sym (l.invariant.4 ∙ in_order_none (left_none v l.f l.at l.invariant.2 l.invariant.3 (omega (arith, l.invariant.0))) (judged_in (a.len * 8) v) l.at)
+    let v = value c.args.s.now in
+    let l = c.loop-next in
+    let none = left_none v l.at l.invariant.0 (subst (λ f. Left v f l.at l.invariant.0) c.in_default.is l.invariant.1) in
+    sym (ap₂ (λ j k. also j (given k)) (l.invariant.2 ∙ in_order_none none.0 (judged_in (c.args.len * 8) v) l.at) (sym none.1))

@@ -1,9 +1,7 @@
 -- Every part is the number that its field spells.
 use mathlib.Core.Path.{◌≡◌, sym, ap, ap₂, ◌∙◌}
 use Prim.Native.Nat.{ℕ, ◌+◌, ◌*◌, min}
-use native.Mathlib.Omega.{arith}
 use Rattle.bits.specs.Bits.{unpack, number}
-use Rattle.bits.specs.Laws.{number_lt}
 use Rattle.theory.specs.Model.Schedule.{none}
 use Rattle.sheet.specs.declared.Chain.{Chain}
 use Rattle.sheet.specs.SameLaws.{sheet_is}
@@ -12,20 +10,13 @@ use Rattle.sheet.specs.PlaceLaws.{places_most}
 use Rattle.sheet.specs.Order.{task_at, chain_spelt}
 use Rattle.sheet.proofs.spell_new.Goals as goal
 
-pub overflow_cast-count : goal.overflow_cast-count
-overflow_cast-count c = omega (arith, c.number-count.ensures, number_lt (unpack c.args.bytes.now) 9 5)
-
-pub overflow_cast-suite : goal.overflow_cast-suite
-overflow_cast-suite c =
-    omega (arith, c.number-suite.ensures, number_lt (unpack c.args.bytes.now) (14 + 42 * c.wide.result) 4)
-
 pub returns : goal.returns
 returns c =
     let bs = unpack c.args.bytes.now in
-    let n-is : c.number-count.result ≡ number bs 9 5 = c.number-count.ensures in
+    let n-is : c.small-count.result ≡ number bs 9 5 = c.small-count.ensures in
     let n : ℕ = min (number bs 9 5) 16 in
-    let w-is = c.wide.ensures.0 ∙ c.taken.ensures ∙ ap (λ k. min k 16) n-is in
-    let suite-is = c.number-suite.ensures ∙ ap (λ k. number bs (14 + 42 * k) 4) w-is in
+    let w-is = c.min.ensures ∙ ap (λ k. min k 16) n-is in
+    let suite-is = c.small-suite.ensures ∙ ap (λ k. number bs (14 + 42 * k) 4) w-is in
     let f : ℕ → Chain = λ j. chain_spelt bs 22 (chain_from bs 22 (14 + 42 * n + 4) j) in
     sheet_is (c.tasks_at-tasks.ensures ∙ ap (λ k. places 16 none k (λ i. task_at bs (14 + 42 * i))) n-is)
     (c.chains_at-chains.ensures ∙ ap₂ (λ k x. places 8 unused k (λ j. chain_spelt bs 22 (chain_from bs 22 (14 + 42 * x + 4) j))) suite-is w-is ∙ sym (places_most 8 unused f (number bs (14 + 42 * n) 4)))

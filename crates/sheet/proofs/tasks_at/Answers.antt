@@ -1,5 +1,5 @@
--- After i turns the first i places are taken, and the next task begins so many tasks further on.
-use mathlib.Core.Path.{refl, ap, ap₂, ◌∙◌}
+-- After i turns the first i places are taken.
+use mathlib.Core.Path.{ap, ap₂, ◌∙◌}
 use Prim.Native.Nat.{ℕ, ◌+◌, ◌*◌, min}
 use native.Mathlib.Omega.{arith}
 use lib.ListN.{set}
@@ -8,38 +8,21 @@ use Rattle.theory.specs.declared.Task.{Task}
 use Rattle.theory.specs.Model.Schedule.{none}
 use Rattle.sheet.specs.Calls.{places, task_bits}
 use Rattle.sheet.specs.Order.{task_at}
-use Rattle.sheet.specs.PlaceLaws.{places_set, places_most}
+use Rattle.sheet.specs.PlaceLaws.{places_set, places_most, task_none}
 use Rattle.sheet.proofs.tasks_at.Goals as goal
 
 pub loop-i-init : goal.loop-i-init
 unfolding list_of
-loop-i-init c = (omega arith, c.taken-end.ensures, omega arith, omega arith, refl)
-
-pub task_at-requires : goal.task_at-requires
-task_at-requires c = omega (arith, c.loop-i.invariant)
-
-pub offset_bounds-tasks-k : goal.offset_bounds-tasks-k
-offset_bounds-tasks-k c = omega arith
-
-pub bounds-tasks-k : goal.bounds-tasks-k
-bounds-tasks-k c = omega (arith, c.loop-i.invariant.1)
+loop-i-init c = let e = c.default-tasks.ensures in ap (λ x. list_of 16 (λ j. x)) (task_none c.default-tasks.result e.0 e.1.0 e.1.1)
 
 pub loop-i-preserved : goal.loop-i-preserved
 loop-i-preserved c =
-    let a = c.args in
     let l = c.loop-i in
-    let bs = unpack a.bytes.now in
-    let f : ℕ → Task = λ j. task_at bs (a.at + task_bits * j) in (
-      omega arith,
-      l.invariant.1,
-      l.invariant.2,
-      omega (arith, l.invariant.3),
-      ap₂ (λ x y. set x l.i y) l.invariant.4 (c.task_at.ensures ∙ ap (task_at bs) l.invariant.3) ∙ places_set 16 none f l.i (omega (arith, l.invariant.1)),
-    )
+    let f : ℕ → Task = λ j. task_at (unpack c.args.bytes.now) (c.args.at + task_bits * j) in
+    ap₂ (λ x y. set x l.i y) l.invariant c.task_at.ensures ∙ places_set 16 none f l.i (omega (arith, c.min-i-end.ensures))
 
 pub returns : goal.returns
 returns c =
     let a = c.args in
-    let l = c.loop-i in
     let f : ℕ → Task = λ j. task_at (unpack a.bytes.now) (a.at + task_bits * j) in
-    l.invariant.4 ∙ ap (λ k. places 16 none k f) {x = l.i} {y = min a.n 16} (omega (arith, l.invariant.1)) ∙ places_most 16 none f a.n
+    c.loop-i.invariant ∙ ap (λ k. places 16 none k f) {x = c.loop-i.i} {y = min a.n 16} (omega (arith, c.min-i-end.ensures)) ∙ places_most 16 none f a.n

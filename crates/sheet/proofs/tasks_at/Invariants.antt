@@ -1,5 +1,5 @@
 use mathlib.Core.Path.{◌≡◌}
-use Prim.Native.Nat.{◌+◌, ◌-◌, ◌*◌, ◌≤◌, min}
+use Prim.Native.Nat.{◌+◌, ◌*◌}
 use Rattle.bits.specs.Bits.{unpack}
 use Rattle.theory.specs.Model.Schedule.{none}
 use Rattle.sheet.specs.Calls.{places, task_bits}
@@ -7,7 +7,4 @@ use Rattle.sheet.specs.Order.{task_at}
 use Rattle.sheet.proofs.tasks_at.Given as goal
 
 abbrev pub invariant-loop-i : goal.invariant-loop-i
-invariant-loop-i l = (l.i ≤ l.end) × (l.end ≡ min l.n 16) × (l.at ≤ 1000) × (l.begin ≡ l.at + task_bits * l.i) × (l.tasks ≡ places 16 none l.i (λ j. task_at (unpack l.bytes) (l.at + task_bits * j)))
-
-abbrev pub decreases-loop-i : goal.decreases-loop-i
-decreases-loop-i l = l.end - l.i
+invariant-loop-i l = l.tasks ≡ places 16 none l.i (λ j. task_at (unpack l.bytes) (l.at + task_bits * j))

@@ -5,10 +5,9 @@ use Rattle.std.proofs.Math.Path.{ap, subst}
 use Rattle.std.proofs.Math.Bool.{cond}
 use mathlib.Core.List.{List, [], ◌∷◌, ◌++◌}
 use Prim.Native.Nat.{ℕ, zero, suc, ◌+◌, ◌*◌, ◌<◌, ◌≤◌, min}
-use Rattle.sheet.specs.declared.Sheet.{Sheet}
 use Rattle.sheet.specs.declared.Field.{Field}
 use Rattle.sheet.specs.declared.Field.TheVariants.{Mark, Edition, Count, Period, Budget, Rank, Chains, Limit, Length, Entry}
-use Rattle.sheet.specs.Fields.{Values, Kind, old, new, kind_of, only, tasks, chains, entries, task_fields, entry_fields, chain_fields, ordered, fields, width, widths, value}
+use Rattle.sheet.specs.Fields.{Values, Kind, old, new, kind_of, only, tasks, chains, entries, task_fields, entry_fields, chain_fields, ordered, fields, width, widths}
 use Rattle.bits.specs.Bits.{number}
 use Rattle.sheet.specs.Calls.{chain_from}
 use Rattle.sheet.specs.EachLaws.{All, On, each_all}
@@ -126,11 +125,14 @@ left_step v f at (x ∷ xs) l =
 
 -- ---- the edition that a sheet carries
 
-pub old_edition : (s : Sheet) → s.edition ≡ 1 → kind_of (value s) ≡ old
-old_edition s e = ap (λ x. cond (eqb (cond (eqb x 1) 0 31) 31) new old) e
+abbrev pub kind_by : ℕ → Kind
+kind_by edition = cond (eqb (cond (eqb edition 1) 0 31) 31) new old
 
-pub new_edition : (s : Sheet) → (s.edition ≡ 1 → ⊥) → kind_of (value s) ≡ new
-new_edition s h = ap (λ b. cond (eqb (cond b 0 31) 31) new old) (ne_eqb s.edition 1 h)
+pub old_edition : (edition : ℕ) → edition ≡ 1 → kind_by edition ≡ old
+old_edition edition e = ap kind_by e
+
+pub new_edition : (edition : ℕ) → (edition ≡ 1 → ⊥) → kind_by edition ≡ new
+new_edition edition h = ap (λ b. cond (eqb (cond b 0 31) 31) new old) (ne_eqb edition 1 h)
 
 -- ---- where a chain begins in bits
 

@@ -2,46 +2,42 @@
 // each task, then the chains, each with its bound; or the refusal.
 #![tactic(auto)]
 
-use answers::Verdict;
-use recurrence::Bounds;
+use answers::Refusal;
+use page::{ChainLine, File, TaskLines};
+use recurrence::QuickSuite;
 use sheet::Sheet;
+use std::fmt;
+use std::fmt::Write;
 
-// The chains that the sheet has, each with its bound.
-fn print_bounds(s: Sheet, bounds: [Bounds; 8]) {
-    let n = sheet::chain_count(s) as usize;
-    let mut k = 0usize;
-    while k < 8 {
-        if n <= k {
-            return;
-        }
-        page::print_chain(s.chains[k]);
-        page::print_number(b"bound ", bounds[k].bound);
-        io::write_all(1, b"\n");
-        k += 1;
+fn print_bounds(out: &mut File, s: Sheet, quick: QuickSuite) -> fmt::Result {
+    let tasks = TaskLines {
+        count: s.count,
+        responses: quick.responses,
+    };
+    write!(out, "{tasks}")?;
+    let chains = sheet::chain_count(s) as usize;
+    for (&chain, figures) in s.chains.iter().zip(&quick.chains).take(chains) {
+        let line = ChainLine(chain);
+        let bound = figures.bound;
+        writeln!(out, "{line}bound {bound}")?;
     }
+    Ok(())
 }
 
-fn answer(bytes: &[u8]) {
-    let r = sheet::read(bytes);
-    let v = r.verdict;
-    let Verdict::Fine = v else {
-        return page::print_refusal(answers::refusal_of(v));
-    };
-    let s = r.sheet;
-    let q = recurrence::suite(s);
-    let a = q.answer;
-    let Verdict::Fine = a else {
-        return page::print_refusal(answers::refusal_of(a));
-    };
-    let responses = q.responses;
-    page::print_tasks(s, responses);
-    let bounds = q.chains;
-    print_bounds(s, bounds);
+// Everything is worked out before the first line is printed, so that a refusal stands alone.
+fn bounds(bytes: &[u8]) -> Result<(Sheet, QuickSuite), Refusal> {
+    let s = sheet::read(bytes)?;
+    Ok((s, recurrence::suite(s)?))
 }
 
-// What lies past the 179th byte never changes the reader's answer, so a buffer of 4,096 serves inputs of any length.
+// What lies past the 179th byte never changes the reader's answer, so a buffer of 4,096 serves inputs of any length. Whether the output could
+// be written is for the launcher to see.
 fn main() {
     let mut input = io::buffer();
     let n = io::read_full(0, &mut input);
-    answer(&input[..n]);
+    let mut out = File(1);
+    let _ = match bounds(&input[..n]) {
+        Ok((s, quick)) => print_bounds(&mut out, s, quick),
+        Err(refusal) => writeln!(out, "{refusal}"),
+    };
 }

@@ -2,53 +2,42 @@
 // in that edition go to standard output, or the refusal to standard error.
 #![tactic(auto)]
 
-use answers::Verdict;
-use sheet::{Reading, Sheet, Written};
+use answers::Refusal;
+use page::File;
+use sheet::Sheet;
+use std::fmt::Write;
 
-const ONE: u8 = 49;
-
-fn converted(s: Sheet, edition: u8) -> Reading {
-    if edition == ONE {
-        return sheet::to_first(s);
-    }
-    sheet::to_second(s)
-}
-
-fn send(out: &[u8], size: usize) {
-    if size <= out.len() {
-        io::write_all(1, &out[..size]);
+// The sheet of some bytes, in the edition that a character asks for.
+fn converted(edition: u8, bytes: &[u8]) -> Result<Sheet, Refusal> {
+    let s = sheet::read(bytes)?;
+    if edition == b'1' {
+        sheet::to_first(s)
+    } else {
+        sheet::to_second(s)
     }
 }
 
-fn put(s: Sheet) {
-    let mut out = [0u8; 178];
-    let w = sheet::write(s, &mut out);
-    let Written::Bytes(size) = w else {
-        return page::print_refusal_to(2, sheet::written_refusal(w));
-    };
-    send(&out, size);
+// Its bytes, put into a buffer.
+fn convert<'a>(edition: u8, bytes: &[u8], out: &'a mut [u8]) -> Result<&'a [u8], Refusal> {
+    let s = converted(edition, bytes)?;
+    let size = sheet::write(s, &mut *out)?;
+    Ok(&out[..size])
 }
 
-fn convert(edition: u8, bytes: &[u8]) {
-    let r = sheet::read(bytes);
-    let v = r.verdict;
-    let Verdict::Fine = v else {
-        return page::print_refusal_to(2, answers::refusal_of(v));
-    };
-    let s = r.sheet;
-    let c = converted(s, edition);
-    let w = c.verdict;
-    let Verdict::Fine = w else {
-        return page::print_refusal_to(2, answers::refusal_of(w));
-    };
-    put(c.sheet);
-}
-
-// What lies past the 179th byte never changes the reader's answer, so a buffer of 4,096 serves inputs of any length.
+// What lies past the 179th byte never changes the reader's answer, so a buffer of 4,096 serves inputs of any length. Whether the output could
+// be written is for the launcher to see.
 fn main() {
     let mut edition = [0u8; 1];
     io::read_full(0, &mut edition);
     let mut input = io::buffer();
     let n = io::read_full(0, &mut input);
-    convert(edition[0], &input[..n]);
+    let mut out = [0u8; 178];
+    match convert(edition[0], &input[..n], &mut out) {
+        Ok(written) => {
+            let _ = io::write_all(1, written);
+        }
+        Err(refusal) => {
+            let _ = writeln!(File(2), "{refusal}");
+        }
+    }
 }

@@ -1,77 +1,49 @@
-// The lines that several programs print alike, on standard output where nothing else is said. Every function here prints and does nothing
-// else: it answers nothing, and nothing that it is lent is changed.
+// Where the programs print, and the lines that several of them print alike.
 #![tactic(auto)]
 
-use answers::Refusal;
-use sheet::{Chain, Sheet};
+use sheet::Chain;
+use std::fmt;
 
-fn wide(x: u32) -> u64 {
-    x as u64
-}
+// A file that is open by its number: 1 is standard output, 2 standard error.
+#[derive(Clone, Copy)]
+pub struct File(pub i32);
 
-fn short(x: u8) -> u32 {
-    x as u32
-}
-
-fn print_number_to(file: i32, label: &[u8], n: u32) {
-    io::write_all(file, label);
-    io::print_decimal(file, wide(n));
-}
-
-// A number after its label.
-pub fn print_number(label: &[u8], n: u32) {
-    print_number_to(1, label, n);
-}
-
-// "and for 15 the task too"; "the report adds ` bit ` and the offset" to the others that have a value.
-fn print_value_to(file: i32, number: u8, value: u32) {
-    if number == 15 {
-        print_number_to(file, b" task ", value);
-    } else {
-        print_number_to(file, b" bit ", value);
-    }
-}
-
-// "`refused` and its number", and what comes with it, to a file that is open.
-pub fn print_refusal_to(file: i32, r: Refusal) {
-    match r {
-        Refusal::Number(n) => print_number_to(file, b"refused ", short(n)),
-        Refusal::With(n, value) => {
-            print_number_to(file, b"refused ", short(n));
-            print_value_to(file, n, value);
+impl fmt::Write for File {
+    fn write_str(&mut self, text: &str) -> fmt::Result {
+        if io::write_all(self.0, text.as_bytes()) {
+            Ok(())
+        } else {
+            Err(fmt::Error)
         }
     }
-    io::write_all(file, b"\n");
 }
 
-pub fn print_refusal(r: Refusal) {
-    print_refusal_to(1, r);
+// "each index with R": so many tasks, a line for each.
+#[derive(Clone, Copy)]
+pub struct TaskLines {
+    pub count: u8,
+    pub responses: [u32; 16],
 }
 
-// "each index with R"
-pub fn print_tasks(s: Sheet, responses: [u32; 16]) {
-    let mut i = 0u8;
-    while i < 16 {
-        if i < s.count {
-            let k = i as usize;
-            print_number(b"task ", short(i));
-            print_number(b" response ", responses[k]);
-            io::write_all(1, b"\n");
+impl fmt::Display for TaskLines {
+    fn fmt<W: fmt::Write>(&self, f: &mut fmt::Formatter<W>) -> fmt::Result {
+        for (task, response) in self.responses.iter().take(self.count as usize).enumerate() {
+            writeln!(f, "task {task} response {response}")?;
         }
-        i += 1;
+        Ok(())
     }
 }
 
-// "the chain's indices"
-pub fn print_chain(c: Chain) {
-    io::write_all(1, b"chain");
-    let mut i = 0u8;
-    while i < 16 {
-        if i < c.length {
-            let k = i as usize;
-            print_number(b" ", short(c.entries[k]));
+// "the chain's indices", on one line.
+#[derive(Clone, Copy)]
+pub struct ChainLine(pub Chain);
+
+impl fmt::Display for ChainLine {
+    fn fmt<W: fmt::Write>(&self, f: &mut fmt::Formatter<W>) -> fmt::Result {
+        write!(f, "chain")?;
+        for task in self.0.entries.iter().take(self.0.length as usize) {
+            write!(f, " {task}")?;
         }
-        i += 1;
+        writeln!(f)
     }
-    io::write_all(1, b"\n");
 }

@@ -1,11 +1,11 @@
 -- Writing and reading a sheet are inverse, from call to call.
 use Rattle.std.specs.Prelude.{◌≡◌, ◌↔◌, List, ◌++◌, ℕ, ◌≤◌, ltb, length, take, drop, Result, Ok}
-use Rattle.std.proofs.Common.{sym, ap, ◌∙◌, arith, take_at, le-ltb}
+use Rattle.std.proofs.Common.{sym, ap, ◌∙◌, arith, take_at, le-ltb, ltb-false}
 use Rattle.bits.specs.Bits.{written, bytes_for}
 use Rattle.bits.specs.Bytes.{Bytes as AreBytes}
 use Rattle.answers.specs.declared.Refusal.{Refusal}
 use Rattle.answers.specs.Answers.{given, fine, when, also, told}
-use Rattle.answers.specs.AnswerLaws.{also_given, told_unique}
+use Rattle.answers.specs.AnswerLaws.{also_given, when_fine, told_unique}
 use Rattle.sheet.specs.declared.Sheet.{Sheet}
 use Rattle.sheet.specs.Calls.{judge_of, packed, encoded, size_of, write_of, buffer_after, RanksFit, cleared, read_of}
 use Rattle.sheet.specs.Fields.{kind_of, fields, value}
@@ -94,3 +94,13 @@ written_range s room n e =
     let f = written_fine s room n e in
     let r = size_range s f.0 in
     (omega (arith, r.0, f.1, length_encoded s), omega (arith, r.1, f.1, length_encoded s))
+
+-- in the room that there is
+pub written_fits : (s : Sheet) (room n : ℕ) → write_of s room ≡ given n → n ≤ room
+unfolding write_of
+written_fits s room n e =
+    let a = also_given (judge_of s) (also (when (ltb room (size_of s)) 14) (given (size_of s))) e in
+    let b = also_given (when (ltb room (size_of s)) 14) (given (size_of s)) a.1 in
+    let size = b.1 in
+    let is : size_of s ≡ n = cc in
+    omega (arith, ltb-false room (size_of s) (when_fine _ 14 b.0))

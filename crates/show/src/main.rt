@@ -1,36 +1,29 @@
 // A timing sheet on standard input as text on standard output, or the refusal on standard error.
 #![tactic(auto)]
 
-use answers::Verdict;
-use sheet::{Sheet, Written};
+use answers::Refusal;
+use page::File;
+use std::fmt::Write;
 
-fn send(out: &[u8], size: usize) {
-    if size <= out.len() {
-        io::write_all(1, &out[..size]);
-    }
+// The text of some bytes' sheet, put into a buffer.
+fn show<'a>(bytes: &[u8], out: &'a mut [u8]) -> Result<&'a [u8], Refusal> {
+    let s = sheet::read(bytes)?;
+    let size = text::show(s, &mut *out)?;
+    Ok(&out[..size])
 }
 
-fn put(s: Sheet) {
-    let mut out = io::buffer();
-    let w = text::show(s, &mut out);
-    let Written::Bytes(size) = w else {
-        return page::print_refusal_to(2, sheet::written_refusal(w));
-    };
-    send(&out, size);
-}
-
-fn show(bytes: &[u8]) {
-    let r = sheet::read(bytes);
-    let v = r.verdict;
-    let Verdict::Fine = v else {
-        return page::print_refusal_to(2, answers::refusal_of(v));
-    };
-    put(r.sheet);
-}
-
-// What lies past the 179th byte never changes the reader's answer, so a buffer of 4,096 serves inputs of any length.
+// What lies past the 179th byte never changes the reader's answer, so a buffer of 4,096 serves inputs of any length. Whether the output could
+// be written is for the launcher to see.
 fn main() {
     let mut input = io::buffer();
     let n = io::read_full(0, &mut input);
-    show(&input[..n]);
+    let mut out = io::buffer();
+    match show(&input[..n], &mut out) {
+        Ok(shown) => {
+            let _ = io::write_all(1, shown);
+        }
+        Err(refusal) => {
+            let _ = writeln!(File(2), "{refusal}");
+        }
+    }
 }

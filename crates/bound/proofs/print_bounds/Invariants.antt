@@ -1,9 +1,0 @@
--- It goes once over the eight places, and ends where the sheet's chains do.
-use Prim.Native.Nat.{◌-◌, ◌≤◌}
-use Rattle.bound.proofs.print_bounds.Given as goal
-
-abbrev pub invariant-loop-k : goal.invariant-loop-k
-invariant-loop-k l = l.k ≤ 8
-
-abbrev pub decreases-loop-k : goal.decreases-loop-k
-decreases-loop-k l = 8 - l.k

@@ -12,9 +12,7 @@ pub fn gcd(a: u32, b: u32) -> u32
     let mut divisor = a;
     let mut rest = b;
     while rest != 0 {
-        let next = divisor % rest;
-        divisor = rest;
-        rest = next;
+        (divisor, rest) = (rest, divisor % rest);
     }
     divisor
 }

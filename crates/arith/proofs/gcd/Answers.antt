@@ -1,16 +1,8 @@
--- Each turn keeps the greatest common divisor of the two numbers while the second falls, and with 0 it is the first.
-use mathlib.Core.Path.{refl, sym, ap, ◌∙◌}
-use native.Mathlib.Nat.{mod-lt}
-use native.Mathlib.Omega.{arith}
+-- Each turn keeps the greatest common divisor of the two numbers, and with 0 it is the first.
+use Rattle.std.proofs.Common.{sym, ap, ◌∙◌, arith}
 use Rattle.arith.specs.Whole.{gcd}
 use Rattle.arith.specs.WholeLaws.{gcd_zero, gcd_step}
 use Rattle.arith.proofs.gcd.Goals as goal
-
-pub loop-rest-init : goal.loop-rest-init
-loop-rest-init c = refl
-
-pub loop-rest-smaller : goal.loop-rest-smaller
-loop-rest-smaller c = mod-lt _ (omega arith)
 
 pub loop-rest-preserved : goal.loop-rest-preserved
 loop-rest-preserved c = sym (gcd_step _ _) ∙ c.loop-rest.invariant

@@ -14,12 +14,13 @@ use Rattle.theory.specs.Model.Recurrence.{quick_response}
 use Rattle.theory.specs.Analysis.Largest.{SmallTask}
 use Rattle.theory.proofs.Analysis.Largest.{along_chain, bound_most}
 use Rattle.answers.specs.Answers.{fine}
+use Rattle.sheet.specs.declared.Chain.{Chain}
 use Rattle.sheet.specs.declared.Sheet.{Sheet}
 use Rattle.sheet.specs.Sound.{Sound}
-use Rattle.sheet.specs.Tasks.{tasks_of, lacks, chain_at, chain_of, first_of, rest_of}
-use Rattle.sheet.specs.TaskLaws.{tasks_length, task_at_lem, task_allowed, chain_place, chain_most, entry_listed, chain_known}
-use Rattle.recurrence.specs.Calls.{pair_added, bound_by}
-use Rattle.recurrence.specs.Conditions.{most_period, most_bound, Responding, ChainOn, pair_of}
+use Rattle.sheet.specs.Tasks.{tasks_of, lacks, chain_at, first_of, rest_of}
+use Rattle.sheet.specs.TaskLaws.{tasks_length, task_at_lem, period_at, task_allowed, chain_place, entry_listed, chain_known}
+use Rattle.recurrence.specs.Calls.{pair_added, bound_by, bounds_of}
+use Rattle.recurrence.specs.Conditions.{most_period, most_bound, Responding, ChainOn, ChainIn, entries_of, pair_of}
 
 -- The least multiple is less than one after it.
 pub up_most : (T x : ℕ) → up T x ≤ x + T
@@ -48,14 +49,26 @@ module _ (s : Sheet) (chain : List ℕ) where
   bound_last j e =
       ap (bound (tasks_of s) (quick_response (tasks_of s)) (get_or chain j 0)) (drop_of_length-le chain {i = j + 1} (omega arith))
 
--- The chain of a number.
-pub chain_on : {s : Sheet} → Sound s → (number : ℕ) → lacks s number ≡ fine → length (chain_of s number) ≡ (chain_at s number).length → ChainOn s (chain_of s number)
-chain_on ok number known whole = record {
+-- The chain of a number,
+pub chain_in : {s : Sheet} → Sound s → (number : ℕ) → lacks s number ≡ fine → ChainIn s (chain_at s number)
+chain_in ok number known = record {
   is_chain = chain_known _ ok number known;
   entry_below = λ j l. omega (arith, entry_listed _ ok number known j l, tasks_length _ ok);
-  some = omega (arith, ok.length_least (number - 1) (chain_place _ ok number known));
-  few = chain_most _ ok number known;
+  some = ok.length_least (number - 1) (chain_place _ ok number known);
+  few = omega (arith, ok.length_most (number - 1) (chain_place _ ok number known), ok.count_most);
 }
+
+-- by its entries, which stand in sixteen places.
+pub chain_on : {s : Sheet} {chain : Chain} → ChainIn s chain → length chain.entries ≡ 16 → ChainOn s (entries_of chain)
+chain_on {chain = chain} on whole = record {
+  is_chain = on.is_chain;
+  entry_below = on.entry_below;
+  some = omega (arith, length-take chain.length chain.entries, on.some);
+  few = omega (arith, length-take chain.length chain.entries, on.few);
+}
+
+pub chain_first : (chain : Chain) → 1 ≤ chain.length → first_of (entries_of chain) ≡ get_or chain.entries 0 0
+chain_first chain some = get_or-take chain.length chain.entries 0 0 some
 
 module _ {s : Sheet} (ok : Sound s) {responses : List ℕ} (responding : Responding s responses) where
   pub small : (i : ℕ) → i < s.count → SmallTask most_period (period (tasks_of s)) (quick_response (tasks_of s)) i
@@ -108,6 +121,21 @@ module _ {s : Sheet} (ok : Sound s) {responses : List ℕ} (responding : Respond
       let last = ap (λ p. get_or responses p 0) at ∙ responding.response_is (get_or chain j 0) (on.entry_below j (omega arith)) in
       let sum : ticks + get_or responses p 0 ≡ bound_by (tasks_of s) chain = omega (arith, e, last, bound_last s chain j all) in
       (sum, omega (arith, sum, bound_small on))
+
+  -- A flag waits for its job up to T − 1 of the first task.
+  pub with_flag : {chain : Chain} → ChainIn s chain → ChainOn s (entries_of chain) → {b : ℕ} → b ≡ bound_by (tasks_of s) (entries_of chain)
+      → let T = (get_or s.tasks (get_or chain.entries 0 0) none).period in
+      (record { sampling_bound = b; bound = b + (T - 1) } ≡ bounds_of (tasks_of s) (entries_of chain)) × (b + (T - 1) ≤ most_bound + most_period)
+  with_flag {chain} has on {b} e = (ap₂ (λ b T. record { sampling_bound = b; bound = b + (T - 1) }) e T_is, omega (arith, e, bound_small on, T_is, most))
+    where
+      known : first_of (entries_of chain) < s.count
+      known = on.entry_below 0 on.some
+
+      T_is : (get_or s.tasks (get_or chain.entries 0 0) none).period ≡ period (tasks_of s) (first_of (entries_of chain))
+      T_is = ap (λ i. (get_or s.tasks i none).period) (sym (chain_first chain has.some)) ∙ sym (period_at _ ok (first_of (entries_of chain)) known)
+
+      most : period (tasks_of s) (first_of (entries_of chain)) ≤ most_period
+      most = (small (first_of (entries_of chain)) known).period_most
 
 -- The entries that follow the first.
 pub entry_is : (chain : List ℕ) (j : ℕ) → j < length (take (length chain - 1) (drop 1 chain))

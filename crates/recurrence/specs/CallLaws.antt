@@ -10,9 +10,10 @@ use Rattle.theory.specs.Model.Recurrence.{quick_response}
 use Rattle.theory.specs.Analysis.GreatestLaws.{IsGreatest}
 use Rattle.theory.proofs.Analysis.GreatestLaws.{greatest_is}
 use Rattle.answers.specs.declared.Refusal.{Refusal}
-use Rattle.answers.specs.Answers.{given, refused, Judgement, fine, after, also, refusal}
-use Rattle.answers.specs.AnswerLaws.{after_given, also_given}
+use Rattle.answers.specs.Answers.{Answer, given, refused, Judgement, fine, after, also, refusal}
+use Rattle.answers.specs.AnswerLaws.{refused_given, after_given, also_given}
 use Rattle.sheet.specs.declared.Sheet.{Sheet}
+use Rattle.sheet.specs.declared.sound.Judged.{Judged}
 use Rattle.sheet.specs.Calls.{judge_of}
 use Rattle.sheet.specs.PlaceLaws.{places_taken}
 use Rattle.sheet.specs.Sound.{Sound}
@@ -24,6 +25,24 @@ use Rattle.recurrence.specs.declared.answer.QuickBound.{QuickBound}
 use Rattle.recurrence.specs.declared.answer.QuickSuite.{QuickSuite}
 use Rattle.recurrence.specs.Calls.{passes, passing_greatest, bounds_of, quick_of, quick_bound_of, suite_of, quick_suite_of, responses_in, bounds_to}
 use Rattle.recurrence.specs.Conditions.{Responding}
+
+-- ---- what a call before it answered
+
+-- What is given after a judgement was judged fine,
+pub judged_fine : {A : Type 0} (j : Judgement) {a b : A} → given b ≡ also j (given a) → (j ≡ fine) × (b ≡ a)
+judged_fine j {a} {b} e = let x = also_given j (given a) (sym e) in (x.0, same (x.1))
+  where
+    same : given a ≡ given b → b ≡ a
+    same e = cc
+
+-- and what is refused was refused by it.
+pub judged_refused : {A : Type 0} (j : Judgement) (a : A) (r : Refusal) → ◌≡◌ {A = Answer A} (refusal r) (also j (given a)) → j ≡ refusal r
+judged_refused (given u) a r e = refused_given e
+judged_refused (refused n vs) a r e = cc
+
+-- A sheet that was judged is fine.
+pub sheet_judged : (s : Sheet) (x : Judged) → given x.sheet ≡ also (judge_of s) (given s) → (judge_of x.sheet ≡ fine) × (x.sheet ≡ s)
+sheet_judged s x e = let j = judged_fine (judge_of s) e in (ap judge_of j.1 ∙ j.0, j.1)
 
 -- ---- the answer
 

@@ -62,15 +62,10 @@ filter_sum f test ts (suc n) l =
     last false = refl
 
 -- One place more adds what its task claims,
-pub claim_more : (ts : List Task) (own x p : ℕ) {ticks q : ℕ} → p < length ts → All Allowed ts
-    → ticks ≡ claim_in (take p ts) own x → q ≡ div_ceil x (get_or ts p none).period
-    → ticks + (get_or ts p none).budget * q ≡ claim_in (take (p + 1) ts) own x
+pub claim_more : (ts : List Task) (own x p : ℕ) {ticks : ℕ} → p < length ts → ticks ≡ claim_in (take p ts) own x
+    → ticks + (get_or ts p none).budget * quotient x (get_or ts p none).period ≡ claim_in (take (p + 1) ts) own x
 unfolding claim_in
-claim_more ts own x p {ticks} {q} l each e d = omega (
-  arith,
-  ap (λ q. (get_or ts p none).budget * q) (d ∙ quotient_is x (get_or ts p none).period (each p none l).period_positive),
-  sum_by_more (λ t. t.budget * quotient x t.period) ts p none l,
-)
+claim_more ts own x p l e = omega (arith, sum_by_more (λ t. t.budget * quotient x t.period) ts p none l)
 
 -- and no task claims more than the candidate and its period.
 pub claim_most : (ts : List Task) (own x n : ℕ) → length ts ≤ 16 → All Allowed ts → own ≤ most_period → x ≤ most_period

@@ -5,6 +5,7 @@ use Rattle.theory.specs.Model.Schedule.{period, rank}
 use Rattle.theory.specs.Model.Chain.{Chain, outranked}
 use Rattle.theory.specs.Model.Recurrence.{quotient, quick_response}
 use Rattle.theory.specs.Analysis.Largest.{pair_bound}
+use Rattle.sheet.specs.declared.Chain.{Chain as SheetChain}
 use Rattle.sheet.specs.declared.Sheet.{Sheet}
 use Rattle.sheet.specs.Tasks.{tasks_of, first_of, rest_of}
 
@@ -48,6 +49,16 @@ pub record ChainOn (s : Sheet) (chain : List ℕ) : Type 0 where
   pub entry_below : (j : ℕ) → j < length chain → get_or chain j 0 < s.count
   pub some : 1 ≤ length chain
   pub few : length chain ≤ 16
+
+-- A chain's entries are in the first places of sixteen.
+abbrev pub entries_of : SheetChain → List ℕ
+entries_of chain = take chain.length chain.entries
+
+pub record ChainIn (s : Sheet) (chain : SheetChain) : Type 0 where
+  pub is_chain : Chain (tasks_of s) (first_of (entries_of chain)) (rest_of (entries_of chain))
+  pub entry_below : (j : ℕ) → j < length (entries_of chain) → get_or (entries_of chain) j 0 < s.count
+  pub some : 1 ≤ chain.length
+  pub few : chain.length ≤ 16
 
 -- What a pair of neighbours adds to the quick bound.
 abbrev pub pair_of : Sheet → ℕ → ℕ → ℕ

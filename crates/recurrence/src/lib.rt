@@ -7,30 +7,29 @@ mod answer;
 
 ghost use Rattle.std.specs.Prelude.{◌≡◌, ◌≤◌, ◌<◌, All, length};
 ghost use Rattle.theory.specs.Model.Recurrence.{quick_response};
-ghost use Rattle.answers.specs.Answers.{fine, told};
-ghost use Rattle.sheet.specs.Sound.{Sound};
-ghost use Rattle.sheet.specs.Tasks.{tasks_of, chain_count, lacks, chain_at, chain_of};
+ghost use Rattle.answers.specs.Answers.{told};
+ghost use Rattle.sheet.specs.Tasks.{tasks_of, chain_count};
 ghost use Rattle.sheet.specs.TaskLaws.{Allowed};
 ghost use Rattle.sheet.specs.Lateness.{lateness};
 ghost use Rattle.recurrence.specs.Calls.{passing_greatest, bound_by, bounds_of, responses_in, bounds_to};
-ghost use Rattle.recurrence.specs.Conditions.{most_period, higher, Gathered, claim_in, Responding, ChainOn};
+ghost use Rattle.recurrence.specs.Conditions.{most_period, higher, Gathered, claim_in, Responding, ChainOn, ChainIn, entries_of};
 ghost use Rattle.recurrence.specs.Promises.{BoundPromise, PairBoundPromise, SuitePromise};
 
 pub use answer::{Bounds, QuickBound, QuickSuite};
 use answers::Refusal;
+use sheet::sound::Judged;
 use sheet::{Chain, Sheet};
 use theory::Task;
 
 // The tasks that outrank task i, in the front of the places, and how many they are.
-fn gather(s: Sheet, i: usize, outranking: &mut [Task; 16]) -> usize
-    requires sound { Sound s }
-    requires i_lt_count { i < s.count }
-    ensures { Gathered s i outranking.new result }
+fn gather(s: Judged, i: usize, outranking: &mut [Task; 16]) -> usize
+    requires { i < s.sheet.count }
+    ensures { Gathered s.sheet i outranking.new result }
 {
-    let rank = s.tasks[i].rank;
-    let n = s.count as usize;
+    let rank = s.sheet.tasks[i].rank;
+    let n = s.sheet.count as usize;
     let mut size = 0;
-    for task in &s.tasks[..n] {
+    for task in &s.sheet.tasks[..n] {
         if rank < task.rank {
             outranking[size] = *task;
             size += 1;
@@ -40,7 +39,8 @@ fn gather(s: Sheet, i: usize, outranking: &mut [Task; 16]) -> usize
 }
 
 // "own budget, plus for each outranking task its budget times (the candidate divided by that task's period, the quotient rounded up)".
-// A budget is at most its period, so each product is less than the candidate and the period.
+// A budget is at most its period, so each product is less than the candidate and the period. (With `div_ceil` for the quotient the longest
+// searches take a sixth more.)
 fn claim(outranking: &[Task], own: u32, candidate: u32) -> u32
     requires outranking_are { (length outranking.now ≤ 16) × All Allowed outranking.now }
     requires own_le_most_period { (own ≤ most_period) × (candidate ≤ most_period) }
@@ -48,19 +48,18 @@ fn claim(outranking: &[Task], own: u32, candidate: u32) -> u32
 {
     let mut ticks = own;
     for task in outranking {
-        ticks += task.budget * candidate.div_ceil(task.period);
+        ticks += task.budget * ((candidate + (task.period - 1)) / task.period);
     }
     ticks
 }
 
 // "the least fixed point": the search "begins at the budget and stops at the first value that repeats, or once it passes the period".
 // Of a task that passes it the value is T + 1.
-fn climb(s: Sheet, i: usize, outranking: &[Task]) -> u32
-    requires sound { Sound s }
-    requires i_lt_count { (i < s.count) × (outranking.now ≡ higher (tasks_of s) i) }
-    ensures { result ≡ quick_response (tasks_of s) i }
+fn climb(s: Judged, i: usize, outranking: &[Task]) -> u32
+    requires { (i < s.sheet.count) × (outranking.now ≡ higher (tasks_of s.sheet) i) }
+    ensures { result ≡ quick_response (tasks_of s.sheet) i }
 {
-    let task = s.tasks[i];
+    let task = s.sheet.tasks[i];
     let mut candidate = task.budget;
     let value = loop {
         if task.period < candidate {
@@ -76,10 +75,9 @@ fn climb(s: Sheet, i: usize, outranking: &[Task]) -> u32
 }
 
 // The value of task i. Those that outrank it are gathered once, so that a step of the search divides and does nothing else.
-fn response(s: Sheet, i: usize) -> u32
-    requires sound { Sound s }
-    requires i_lt_count { i < s.count }
-    ensures { result ≡ quick_response (tasks_of s) i }
+fn response(s: Judged, i: usize) -> u32
+    requires { i < s.sheet.count }
+    ensures { result ≡ quick_response (tasks_of s.sheet) i }
 {
     let mut outranking = [Task::default(); 16];
     let size = gather(s, i, &mut outranking);
@@ -87,28 +85,26 @@ fn response(s: Sheet, i: usize) -> u32
 }
 
 // The value of each task, in sixteen places.
-fn each_response(s: Sheet) -> [u32; 16]
-    requires { Sound s }
-    ensures { result ≡ responses_in s }
+fn each_response(s: Judged) -> [u32; 16]
+    ensures { result ≡ responses_in s.sheet }
 {
     let mut each = [0u32; 16];
-    for i in 0..s.count as usize {
+    for i in 0..s.sheet.count as usize {
         each[i] = response(s, i);
     }
     each
 }
 
 // "15 names the greatest-ranked task whose value passes its period".
-fn passing(s: Sheet, responses: &[u32; 16]) -> Result<(), Refusal>
-    requires sound { Sound s }
-    requires responses_value { responses.now ≡ responses_in s }
-    ensures { told result ≡ lateness (passing_greatest (tasks_of s) (length (tasks_of s))) }
+fn passing(s: Judged, responses: &[u32; 16]) -> Result<(), Refusal>
+    requires { responses.now ≡ responses_in s.sheet }
+    ensures { told result ≡ lateness (passing_greatest (tasks_of s.sheet) (length (tasks_of s.sheet))) }
 {
     let mut late: Option<u8> = None;
-    for i in 0..s.count {
-        let task = s.tasks[i as usize];
+    for i in 0..s.sheet.count {
+        let task = s.sheet.tasks[i as usize];
         let outranks = match late {
-            Some(j) => s.tasks[j as usize].rank < task.rank,
+            Some(j) => s.sheet.tasks[j as usize].rank < task.rank,
             None => true,
         };
         if task.period < responses[i as usize] && outranks {
@@ -135,94 +131,69 @@ pub fn pair_bound(producer: Task, consumer: Task, response: u32) -> u64
 }
 
 // The quick bound of a chain: what each pair adds, and the last task's response.
-fn bound_along(s: Sheet, chain: &[u8], responses: &[u32; 16]) -> u32
-    requires sound { Sound s }
-    requires responding { Responding s responses.now }
-    requires chain_on { ChainOn s chain.now }
-    ensures { result ≡ bound_by (tasks_of s) chain.now }
+fn bound_along(s: Judged, chain: &[u8], responses: &[u32; 16]) -> u32
+    requires responding { Responding s.sheet responses.now }
+    requires chain_on { ChainOn s.sheet chain.now }
+    ensures { result ≡ bound_by (tasks_of s.sheet) chain.now }
 {
     let mut ticks = 0u32;
     let mut p = chain[0] as usize;
     for entry in &chain[1..] {
         let c = *entry as usize;
-        ticks += pair_bound(s.tasks[p], s.tasks[c], responses[p]) as u32;
+        ticks += pair_bound(s.sheet.tasks[p], s.sheet.tasks[c], responses[p]) as u32;
         p = c;
     }
     ticks + responses[p]
 }
 
-// The same from a flag on, which waits for its job up to T − 1 of the first task.
-fn bounds_along(s: Sheet, chain: &[u8], responses: &[u32; 16]) -> Bounds
-    requires sound { Sound s }
-    requires responding { Responding s responses.now }
-    requires chain_on { ChainOn s chain.now }
-    ensures { result ≡ bounds_of (tasks_of s) chain.now }
+// The same with the bound from a flag on, which waits for its job up to T − 1 of the first task.
+fn bounds_of(s: Judged, chain: Chain, responses: &[u32; 16]) -> Bounds
+    requires responding { Responding s.sheet responses.now }
+    requires chain_in { ChainIn s.sheet chain }
+    ensures { result ≡ bounds_of (tasks_of s.sheet) (entries_of chain) }
 {
-    let p = chain[0] as usize;
-    let sampling_bound = bound_along(s, chain, responses);
-    let bound = sampling_bound + (s.tasks[p].period - 1);
+    let entries = chain.entries;
+    let first = entries[0] as usize;
+    let sampling_bound = bound_along(s, &entries[..chain.length as usize], responses);
+    let bound = sampling_bound + (s.sheet.tasks[first].period - 1);
     Bounds {
         sampling_bound,
         bound,
     }
 }
 
-// The chain of a number.
-fn chain_of(s: Sheet, number: u8) -> Chain
-    requires sound { Sound s }
-    requires number_value { lacks s number ≡ fine }
-    ensures { (result ≡ chain_at s number) × (length result.entries ≡ 16) }
+// The bounds of each chain.
+fn each_bounds(s: Judged, responses: &[u32; 16]) -> [Bounds; 8]
+    requires { Responding s.sheet responses.now }
+    ensures { result ≡ bounds_to s.sheet (chain_count s.sheet) }
 {
-    let place = number as usize - 1;
-    s.chains[place]
-}
-
-// The bounds of the chain of a number.
-fn bounds_of(s: Sheet, number: u8, responses: &[u32; 16]) -> Bounds
-    requires sound { Sound s }
-    requires responding { Responding s responses.now }
-    requires number_value { lacks s number ≡ fine }
-    ensures { result ≡ bounds_of (tasks_of s) (chain_of s number) }
-{
-    let c = chain_of(s, number);
-    let entries = c.entries;
-    let m = c.length as usize;
-    bounds_along(s, &entries[..m], responses)
+    let n = sheet::chain_count(s.sheet) as usize;
+    let mut chains = [Bounds::default(); 8];
+    for c in 0..n {
+        chains[c] = bounds_of(s, s.sheet.chains[c], responses);
+    }
+    chains
 }
 
 // The quick bound of a chain with no table, and the response of each task in its place.
 pub fn bound(s: Sheet, number: u8) -> Result<QuickBound, Refusal>
     ensures { BoundPromise s number result }
 {
-    sheet::judge(s)?;
-    sheet::numbered(s, number)?;
-    let responses = each_response(s);
-    passing(s, &responses)?;
-    let bounds = bounds_of(s, number, &responses);
+    let judged = sheet::judged(s)?;
+    let chain = sheet::chain_of(judged, number)?;
+    let responses = each_response(judged);
+    passing(judged, &responses)?;
+    let bounds = bounds_of(judged, chain, &responses);
     Ok(QuickBound { bounds, responses })
-}
-
-// The bounds of each chain.
-fn each_bounds(s: Sheet, responses: &[u32; 16]) -> [Bounds; 8]
-    requires sound { Sound s }
-    requires responding { Responding s responses.now }
-    ensures { result ≡ bounds_to s (chain_count s) }
-{
-    let n = sheet::chain_count(s);
-    let mut chains = [Bounds::default(); 8];
-    for c in 0..n {
-        chains[c as usize] = bounds_of(s, c + 1, responses);
-    }
-    chains
 }
 
 // The quick bounds of every chain, and the response of each task, from one search.
 pub fn suite(s: Sheet) -> Result<QuickSuite, Refusal>
     ensures { SuitePromise s result }
 {
-    sheet::judge(s)?;
-    let responses = each_response(s);
-    passing(s, &responses)?;
-    let chains = each_bounds(s, &responses);
+    let judged = sheet::judged(s)?;
+    let responses = each_response(judged);
+    passing(judged, &responses)?;
+    let chains = each_bounds(judged, &responses);
     Ok(QuickSuite { responses, chains })
 }

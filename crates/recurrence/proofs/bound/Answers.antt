@@ -1,41 +1,66 @@
 -- Each judgement is made in its turn, the fields, the chain's number and then the values against their periods; after that the bound is added up.
-use Rattle.std.proofs.Common.{sym, ap, ◌∙◌}
+use Rattle.std.proofs.Common.{◌≡◌, sym, ap, ◌∙◌, subst}
 use Rattle.std.proofs.lemmas.Result.{err_from_is_err_and}
-use Rattle.answers.specs.Answers.{given}
-use Rattle.sheet.specs.SoundLaws.{judged_sound}
+use Rattle.answers.specs.Answers.{given, refusal, fine}
+use Rattle.sheet.specs.Calls.{judge_of}
 use Rattle.sheet.specs.LatenessLaws.{lateness_fine}
-use Rattle.recurrence.specs.CallLaws.{bound_refused, bound_lacking, bound_passing, bound_given, quick_fits, none_responding}
+use Rattle.sheet.specs.Tasks.{tasks_of, lacks, chain_at}
+use Rattle.recurrence.specs.Calls.{bounds_of, quick_bound_of}
+use Rattle.recurrence.specs.Conditions.{ChainIn, entries_of}
+use Rattle.recurrence.specs.BoundLaws.{chain_in}
+use Rattle.recurrence.specs.CallLaws.{judged_fine, judged_refused, sheet_judged, bound_refused, bound_lacking, bound_passing, bound_given, quick_fits, none_responding}
+use Rattle.recurrence.proofs.bound.Goals.{In_ok-judged, In_ok-chain}
 use Rattle.recurrence.proofs.bound.Goals as goal
 
-pub returns-in_err-judge : goal.returns-in_err-judge
-returns-in_err-judge c =
+-- The sheet that was judged is this one,
+sheet_is : (c : In_ok-judged) → let x = c.in_ok-judged.judged in (judge_of x.sheet ≡ fine) × (x.sheet ≡ c.args.s)
+sheet_is c = sheet_judged c.args.s c.in_ok-judged.judged c.in_ok-judged.ensures
+
+-- and has the chain.
+chain_is : (c : In_ok-chain) → let s = c.in_ok-judged.judged.sheet in (lacks s c.args.number ≡ fine) × (c.in_ok-chain.chain ≡ chain_at s c.args.number)
+chain_is c = judged_fine (lacks c.in_ok-judged.judged.sheet c.args.number) c.in_ok-chain.ensures
+
+pub returns-in_err-judged : goal.returns-in_err-judged
+returns-in_err-judged c =
     let p = err_from_is_err_and c.from_residual.result c.from_residual.ensures.1 in
-    rw (p.1, p.2) (bound_refused c.args.s c.args.number c.in_err-judge.field-0.0 (sym c.in_err-judge.ensures))
+    rw (p.1, p.2) (bound_refused c.args.s c.args.number c.in_err-judged.field-0.0 (judged_refused (judge_of c.args.s) c.args.s c.in_err-judged.field-0.0 c.in_err-judged.ensures))
 
-pub returns-in_err-numbered : goal.returns-in_err-numbered
-returns-in_err-numbered c =
-    let p = err_from_is_err_and c.from_residual-in_err-numbered.result c.from_residual-in_err-numbered.ensures.1 in
-    rw (p.1, p.2) (bound_lacking c.args.s c.args.number c.in_err-numbered.field-0.0 (sym c.in_ok-judge.ensures) (sym c.in_err-numbered.ensures))
-
-pub each_response-responses-requires : goal.each_response-responses-requires
-each_response-responses-requires c = judged_sound c.args.s (sym c.in_ok-judge.ensures)
-
-pub passing-requires-clause-sound : goal.passing-requires-clause-sound
-passing-requires-clause-sound c = judged_sound c.args.s (sym c.in_ok-judge.ensures)
+pub returns-in_err-chain : goal.returns-in_err-chain
+returns-in_err-chain c =
+    let s = c.in_ok-judged.judged.sheet in
+    let number = c.args.number in
+    let r = c.in_err-chain.field-0.0 in
+    let j = sheet_is (goal.at.returns-in_err-chain c).In_ok-judged in
+    let p = err_from_is_err_and c.from_residual-in_err-chain.result c.from_residual-in_err-chain.ensures.1 in
+    rw (p.1, p.2) (subst (λ s. refusal r ≡ quick_bound_of s number) j.1 (bound_lacking s number r j.0 (judged_refused (lacks s number) (chain_at s number) r c.in_err-chain.ensures)))
 
 pub returns-in_err-passing : goal.returns-in_err-passing
 returns-in_err-passing c =
+    let s = c.in_ok-judged.judged.sheet in
+    let number = c.args.number in
+    let r = c.in_err-passing.field-0.0 in
+    let j = sheet_is (goal.at.returns-in_err-passing c).In_ok-judged in
+    let k = chain_is (goal.at.returns-in_err-passing c).In_ok-chain in
     let p = err_from_is_err_and c.from_residual-in_err-passing.result c.from_residual-in_err-passing.ensures.1 in
-    rw (p.1, p.2) (bound_passing c.args.s c.args.number c.in_err-passing.field-0.0 (sym c.in_ok-judge.ensures) (sym c.in_ok-numbered.ensures) (sym c.in_err-passing.ensures))
-
-pub bounds_of-bounds-requires-clause-sound : goal.bounds_of-bounds-requires-clause-sound
-bounds_of-bounds-requires-clause-sound c = judged_sound c.args.s (sym c.in_ok-judge.ensures)
+    rw (p.1, p.2) (subst (λ s. refusal r ≡ quick_bound_of s number) j.1 (bound_passing s number r j.0 k.0 (sym c.in_err-passing.ensures)))
 
 pub bounds_of-bounds-requires-clause-responding : goal.bounds_of-bounds-requires-clause-responding
 bounds_of-bounds-requires-clause-responding c =
-    none_responding c.args.s (judged_sound c.args.s (sym c.in_ok-judge.ensures)) c.each_response-responses.ensures (lateness_fine _ (sym c.in_ok-passing.ensures))
+    let x = c.in_ok-judged.judged in
+    none_responding x.sheet x.sound c.each_response-responses.ensures (lateness_fine _ (sym c.in_ok-passing.ensures))
+
+pub bounds_of-bounds-requires-clause-chain_in : goal.bounds_of-bounds-requires-clause-chain_in
+bounds_of-bounds-requires-clause-chain_in c =
+    let x = c.in_ok-judged.judged in
+    let k = chain_is (goal.at.bounds_of-bounds-requires-clause-chain_in c).In_ok-chain in
+    subst (ChainIn x.sheet) (sym k.1) (chain_in x.sound c.args.number k.0)
 
 pub returns : goal.returns
 returns c =
-    let e = quick_fits c.args.s c.args.number (sym c.in_ok-judge.ensures) (sym c.in_ok-numbered.ensures) (sym c.in_ok-passing.ensures) in
-    bound_given c.args.s c.args.number (e ∙ ap given (sym c.bounds_of-bounds.ensures)) c.each_response-responses.ensures
+    let s = c.in_ok-judged.judged.sheet in
+    let number = c.args.number in
+    let j = sheet_is (goal.at.returns c).In_ok-judged in
+    let k = chain_is (goal.at.returns c).In_ok-chain in
+    let bounds = c.bounds_of-bounds.ensures ∙ ap (λ chain. bounds_of (tasks_of s) (entries_of chain)) k.1 in
+    subst (λ s. given (record { bounds = c.bounds_of-bounds.result; responses = c.each_response-responses.result }) ≡ quick_bound_of s number) j.1
+    (bound_given s number (quick_fits s number j.0 k.0 (sym c.in_ok-passing.ensures) ∙ ap given (sym bounds)) c.each_response-responses.ensures)

@@ -6,6 +6,6 @@ use Rattle.recurrence.proofs.bound_along.Given as goal
 
 abbrev pub invariant-loop-entry : goal.invariant-loop-entry
 invariant-loop-entry l = record {
-  so_far : l.ticks + bound_from l.s l.chain l.entry-index ≡ bound_by (tasks_of l.s) l.chain;
+  so_far : l.ticks + bound_from l.s.sheet l.chain l.entry-index ≡ bound_by (tasks_of l.s.sheet) l.chain;
   at : l.p ≡ get_or l.chain l.entry-index 0;
 }

@@ -3,4 +3,4 @@ use Rattle.recurrence.specs.Calls.{bounds_to}
 use Rattle.recurrence.proofs.each_bounds.Given as goal
 
 abbrev pub invariant-loop-c : goal.invariant-loop-c
-invariant-loop-c l = l.chains ≡ bounds_to l.s l.c
+invariant-loop-c l = l.chains ≡ bounds_to l.s.sheet l.c

@@ -14,4 +14,4 @@ pub loop-i-preserved : goal.loop-i-preserved
 loop-i-preserved c =
     let l = c.loop-i in
     ap₂ (λ xs v. slice_set xs l.i v) l.invariant c.response.ensures
-    ∙ places_set 16 0 (quick_response (tasks_of c.args.s)) l.i (omega (arith, c.requires.count_most))
+    ∙ places_set 16 0 (quick_response (tasks_of c.args.s.sheet)) l.i (omega (arith, c.args.s.sound.count_most))

@@ -5,4 +5,4 @@ use Rattle.sheet.specs.Tasks.{tasks_of}
 use Rattle.recurrence.proofs.each_response.Given as goal
 
 abbrev pub invariant-loop-i : goal.invariant-loop-i
-invariant-loop-i l = l.each ≡ places 16 0 l.i (quick_response (tasks_of l.s))
+invariant-loop-i l = l.each ≡ places 16 0 l.i (quick_response (tasks_of l.s.sheet))

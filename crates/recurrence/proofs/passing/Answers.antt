@@ -12,22 +12,22 @@ loop-i-init c = refl
 pub bounds-s-j : goal.bounds-s-j
 bounds-s-j c =
     let l = c.loop-i in
-    omega (arith, found_known c.args.s l.i c.in-Some.j (subst (FoundTo c.args.s l.i) c.in-Some.is l.invariant), c.requires.sound.count_most)
+    omega (arith, found_known c.args.s.sheet l.i c.in-Some.j (subst (FoundTo c.args.s.sheet l.i) c.in-Some.is l.invariant), c.args.s.sound.count_most)
 
 -- Whether the task takes the place of the one so far, which is at hand still.
-taken : (c : Joined-task-responses) → (c.match-late.outranks ≡ takes c.args.s c.loop-i.i c.loop-i.late) × (c.match-late.late ≡ c.loop-i.late)
+taken : (c : Joined-task-responses) → (c.match-late.outranks ≡ takes c.args.s.sheet c.loop-i.i c.loop-i.late) × (c.match-late.late ≡ c.loop-i.late)
 taken c =
     elim c.match-late.branch [
-      | in-Some w ↦ (w.outranks-is ∙ ap (takes c.args.s c.loop-i.i) (sym w.in-Some.is), w.late-is ∙ sym w.in-Some.is)
-      | in-None w ↦ (w.outranks-is ∙ ap (takes c.args.s c.loop-i.i) (sym w.in-None.is), w.late-is)
+      | in-Some w ↦ (w.outranks-is ∙ ap (takes c.args.s.sheet c.loop-i.i) (sym w.in-Some.is), w.late-is ∙ sym w.in-Some.is)
+      | in-None w ↦ (w.outranks-is ∙ ap (takes c.args.s.sheet c.loop-i.i) (sym w.in-None.is), w.late-is)
     ]
 
 pub loop-i-preserved : goal.loop-i-preserved
 loop-i-preserved c =
     let l = c.loop-i in
-    let s = c.args.s in
-    let ok = c.requires.sound in
-    let are = c.requires.responses_value in
+    let s = c.args.s.sheet in
+    let ok = c.args.s.sound in
+    let are = c.requires in
     let t = taken c in
     elim c.if-task-responses.branch [
       | then-task-responses+then-outranks w ↦ rw w.late-is (found_more s ok are l.i c.loop-i-test.true l.late l.invariant w.if-task-responses.true (sym t.0 ∙ w.if-outranks.true))
@@ -38,7 +38,7 @@ loop-i-preserved c =
     ]
 
 pub returns-in-Some-late : goal.returns-in-Some-late
-returns-in-Some-late c = sym (found_all c.args.s c.requires.sound c.loop-i.late (omega arith) c.loop-i.invariant c.in-Some-late.is)
+returns-in-Some-late c = sym (found_all c.args.s.sheet c.args.s.sound c.loop-i.late (omega arith) c.loop-i.invariant c.in-Some-late.is)
 
 pub returns-in-None-late : goal.returns-in-None-late
-returns-in-None-late c = sym (found_all c.args.s c.requires.sound c.loop-i.late (omega arith) c.loop-i.invariant c.in-None-late.is)
+returns-in-None-late c = sym (found_all c.args.s.sheet c.args.s.sound c.loop-i.late (omega arith) c.loop-i.invariant c.in-None-late.is)

@@ -1,34 +1,46 @@
 -- The chain of a number, of whose sixteen places the first `length` are lent.
-use mathlib.Core.Path.{◌≡◌, sym, ap, ◌∙◌}
-use Prim.Native.Nat.{ℕ, ◌-◌, ◌≤◌, ◌<◌}
-use native.Mathlib.Omega.{arith}
-use lib.ListN.{length, get_or, take}
-use lib.Seq.{get_or-take}
+use Rattle.std.proofs.Common.{◌≡◌, ℕ, ◌-◌, ◌≤◌, ◌<◌, List, length, get_or, take, sym, ap, ◌∙◌, subst, arith, get_or-take}
 use Rattle.answers.specs.Answers.{fine}
 use Rattle.sheet.specs.declared.Chain.{Chain}
 use Rattle.sheet.specs.declared.Sheet.{Sheet}
 use Rattle.sheet.specs.Sound.{Sound}
-use Rattle.sheet.specs.Tasks.{lacks, chain_at, chain_of, first_of}
-use Rattle.sheet.specs.TaskLaws.{chain_place, chain_length, chain_most}
+use Rattle.sheet.specs.Tasks.{tasks_of, lacks, chain_at, chain_of, first_of}
+use Rattle.sheet.specs.TaskLaws.{chain_place, chain_length, chain_most, entry_listed}
+use Rattle.chain.specs.declared.row.Row.{Row}
+use Rattle.chain.specs.Paths.{RowsOf, PathOf, Copied}
+use Rattle.chain.specs.RowLaws.{front_path}
 
-module _ (s : Sheet) (sound : Sound s) (number : ℕ) (known : lacks s number ≡ fine) (c : Chain) (is : (c ≡ chain_at s number) × (length c.entries ≡ 16)) where
-  pub lent : take c.length c.entries ≡ chain_of s number
-  lent = ap (λ (x : Chain). take x.length x.entries) is.0
+module _ (s : Sheet) (sound : Sound s) (number : ℕ) (known : lacks s number ≡ fine) (c : Chain) (is : c ≡ chain_at s number) (whole : length c.entries ≡ 16) where
+  abbrev entries : List ℕ
+  entries = take c.length c.entries
+
+  pub lent : entries ≡ chain_of s number
+  lent = ap (λ (x : Chain). take x.length x.entries) is
 
   same : c.length ≡ (chain_at s number).length
-  same = ap (λ (x : Chain). x.length) is.0
+  same = ap (λ (x : Chain). x.length) is
 
   long : length (chain_of s number) ≡ (chain_at s number).length
-  long = chain_length _ sound number known (ap (λ (x : Chain). length x.entries) (sym is.0) ∙ is.1)
-
-  pub lent_count : c.length ≡ length (take c.length c.entries)
-  lent_count = same ∙ sym long ∙ sym (ap length lent)
+  long = chain_length _ sound number known (ap (λ (x : Chain). length x.entries) (sym is) ∙ whole)
 
   pub lent_most : c.length ≤ length c.entries
-  lent_most = omega (arith, same, long, is.1, chain_most _ sound number known)
+  lent_most = omega (arith, same, long, whole, chain_most _ sound number known)
+
+  pub lent_few : length entries ≤ 16
+  lent_few = omega (arith, ap length lent, chain_most _ sound number known)
 
   pub lent_some : 0 < length (chain_of s number)
   lent_some = omega (arith, long, sound.length_least (number - 1) (chain_place _ sound number known))
 
   pub lent_first : get_or c.entries 0 0 ≡ first_of (chain_of s number)
   lent_first = sym (get_or-take c.length c.entries 0 0 (omega (arith, same, long, lent_some))) ∙ ap (λ xs. get_or xs 0 0) lent
+
+  -- Its entries are tasks,
+  pub lent_entry : (j : ℕ) → j < length entries → get_or entries j 0 < length (tasks_of s)
+  lent_entry j l = subst (λ xs. j < length xs → get_or xs j 0 < length (tasks_of s)) (sym lent) (λ h. entry_listed _ sound number known j h) l
+
+  -- whose rows are its path.
+  pub lent_path : (rows path : List Row) → RowsOf (tasks_of s) (length (tasks_of s)) rows → length path ≡ 16 → Copied entries rows (length entries) path
+      → (length (take (length entries) path) ≡ length (chain_of s number)) × PathOf (tasks_of s) (chain_of s number) (length (chain_of s number)) (take (length entries) path)
+  lent_path rows path all room copied =
+      front_path (tasks_of s) (chain_of s number) entries rows path lent (omega (arith, chain_most _ sound number known)) all (λ j l. entry_listed _ sound number known j l) copied

@@ -1,14 +1,11 @@
 -- The contract of each call is its promise: what a caller learns of it is the predicate of `Promises`, no more and no less.
 use mathlib.Core.Path.{◌≡◌, refl}
-use Rattle.chain.specs.Promises.{DelayPromise, MarginPromise, DefaultMarginPromise, FiguresPromise, SuitePromise, DelayRefusalPromise, MarginRefusalPromise, FiguresRefusalPromise}
+use Rattle.chain.specs.Promises.{DelayPromise, MarginPromise, DefaultMarginPromise, FiguresPromise, SuitePromise}
 use Rattle.chain.proofs.delay.Reads as delay
 use Rattle.chain.proofs.margin.Reads as margin
 use Rattle.chain.proofs.default_margin.Reads as default_margin
 use Rattle.chain.proofs.figures.Reads as figures
 use Rattle.chain.proofs.suite.Reads as suite
-use Rattle.chain.proofs.delay_refusal.Reads as delay_refusal
-use Rattle.chain.proofs.margin_refusal.Reads as margin_refusal
-use Rattle.chain.proofs.figures_refusal.Reads as figures_refusal
 
 delay_promised : delay.Learnt ≡ (λ κs a r e. DelayPromise a.0 a.1.0 a.1.1.0 a.1.1.1.0.now r e.1.1.1.0.now)
 delay_promised = refl
@@ -24,12 +21,3 @@ figures_promised = refl
 
 suite_promised : suite.Learnt ≡ (λ κs a r e. SuitePromise a.0 a.1.0.now r e.1.0.now)
 suite_promised = refl
-
-delay_refusal_promised : delay_refusal.Learnt ≡ (λ κs a r e. DelayRefusalPromise a.0 r)
-delay_refusal_promised = refl
-
-margin_refusal_promised : margin_refusal.Learnt ≡ (λ κs a r e. MarginRefusalPromise a.0 r)
-margin_refusal_promised = refl
-
-figures_refusal_promised : figures_refusal.Learnt ≡ (λ κs a r e. FiguresRefusalPromise a.0 r)
-figures_refusal_promised = refl

@@ -1,5 +1,5 @@
 -- The answers case by case: a refusal met on the way, or none, and what is known where an answer is given.
-use Rattle.std.specs.Prelude.{◌≡◌, List, [], Bool, true, false, cond, ℕ, ◌%◌, ◌≤◌, ◌<◌, ltb, leb, ℤ, length}
+use Rattle.std.specs.Prelude.{◌≡◌, List, [], Bool, true, false, cond, ℕ, ◌%◌, ◌≤◌, ◌<◌, ltb, leb, ℤ, length, Result, Ok, Err}
 use Rattle.std.proofs.Math.Path.{refl, sym, ap}
 use Rattle.std.proofs.Common.{◌∙◌, subst, arith, lt-ltb, le-ltb, le-leb, ne_eqb, ltb-false}
 use Rattle.std.proofs.lemmas.Bool.{false≢true, lt-leb}
@@ -8,26 +8,28 @@ use Rattle.theory.specs.declared.Task.{Task}
 use Rattle.theory.specs.Model.Schedule.{period, release}
 use Rattle.theory.specs.Model.Responses.{hyperperiod}
 use Rattle.answers.specs.declared.Refusal.{Refusal}
-use Rattle.answers.specs.declared.Verdict.{Verdict}
-use Rattle.answers.specs.declared.Verdict.TheVariants.{Fine, No}
 use Rattle.answers.specs.Answers.{Answer, given, refused, Judgement, fine, when, after, also, number_in, refusal}
 use Rattle.answers.specs.AnswerLaws.{when_fine, also_given, after_given}
 use Rattle.sheet.specs.declared.Sheet.{Sheet}
 use Rattle.sheet.specs.Calls.{judge_of}
-use Rattle.sheet.specs.Tasks.{tasks_of, lacks, chain_of, first_of}
+use Rattle.sheet.specs.Tasks.{tasks_of, chain_count, lacks, chain_of, first_of}
 use Rattle.sheet.specs.Sound.{Sound}
 use Rattle.sheet.specs.SoundLaws.{judged_sound}
 use Rattle.sheet.specs.TaskLaws.{chain_known, chain_most}
 use Rattle.schedule.specs.declared.answer.Totals.{Totals}
 use Rattle.schedule.specs.declared.answer.Size.{Size}
-use Rattle.schedule.specs.Calls.{sizes_of, responses_of, table_after}
+use Rattle.schedule.specs.declared.answer.TaskResponses.{TaskResponses}
+use Rattle.schedule.specs.Calls.{sizes_of, responses_of, task_responses_of, with_greatest, table_after}
+use Rattle.schedule.specs.CallLaws.{task_table}
 use Rattle.schedule.specs.NumberLaws.{sizes_never_15}
 use Rattle.schedule.specs.Promises.{AnswersAs}
 use Rattle.schedule.specs.Results.{responses_given, given_taken}
 use Rattle.schedule.specs.Taken.{Taken, Holds}
 use Rattle.schedule.specs.RowLaws.{filled_holds}
+use Rattle.chain.specs.declared.answer.Suite.{Suite}
 use Rattle.chain.specs.declared.answer.Summary.{Summary}
-use Rattle.chain.specs.Calls.{delay_at, figure_of, quick_bound, less, no_release, named, most_limit, report_limit, summary_at, delay_of, margin_of, figures_of}
+use Rattle.chain.specs.declared.answer.TaskFigures.{TaskFigures}
+use Rattle.chain.specs.Calls.{delay_at, figure_of, quick_bound, less, no_release, named, most_limit, report_limit, summary_at, summaries_to, with_tasks, report_of, delay_of, margin_of, figures_of, task_figures_of, suite_of}
 use Rattle.chain.specs.Conditions.{TakenChain, Lacking, over_limit}
 use Rattle.chain.specs.NumberLaws.{named_never_15, over_never_15}
 use Rattle.chain.specs.SuiteLaws.{report_most}
@@ -66,11 +68,11 @@ answers_number n s old l e = (sym e, rw (e, ne_eqb n 15 (λ z. omega arith)))
 -- ---- the chain's number
 
 -- The number's refusal, or a field's, comes before the rest;
-module _ (s : Sheet) (number : ℕ) {v : Verdict} (l : Lacking s number v) where
-  pub lacking_no : (r : Refusal) → v ≡ No r → named s number ≡ refusal r
+module _ (s : Sheet) (number : ℕ) {v : Result Unit Refusal} (l : Lacking s number v) where
+  pub lacking_no : (r : Refusal) → v ≡ Err r → named s number ≡ refusal r
   lacking_no r e = subst (Lacking s number) e l
 
-  pub lacking_fine : v ≡ Fine → lacks s number ≡ fine
+  pub lacking_fine : {u : Unit} → v ≡ Ok u → lacks s number ≡ fine
   lacking_fine e = subst (Lacking s number) e l
 
 -- where the sheet has the chain, the fields are judged with H and J.
@@ -95,6 +97,44 @@ module _ (s : Sheet) (number : ℕ) (known : lacks s number ≡ fine) (room : �
   pub figures_known : figures_of s number room ≡ after (responses_of s room) (λ totals. given (summary_at s number totals))
   unfolding figures_of
   figures_known = known_responses s number known room _
+
+-- The answers with R of each task, from those of `task_responses`.
+abbrev pub figures_from : Sheet → ℕ → TaskResponses → TaskFigures
+figures_from s number x = record { summary = summary_at s number x.totals; greatest = x.greatest }
+
+abbrev pub suite_from : Sheet → TaskResponses → Suite
+suite_from s x = record { totals = x.totals; greatest = x.greatest; chains = summaries_to s x.totals (chain_count s) }
+
+pub task_figures_known : (s : Sheet) (number : ℕ) → lacks s number ≡ fine → (room : ℕ)
+    → task_figures_of s number room ≡ after (task_responses_of s room) (λ x. given (figures_from s number x))
+unfolding task_figures_of task_responses_of
+task_figures_known s number known room = ap (λ a. after a (λ x. given (with_tasks s x))) (figures_known s number known room) ∙ go (responses_of s room)
+  where
+    go : (a : Answer Totals) → after (after a (λ totals. given (summary_at s number totals))) (λ x. given (with_tasks s x))
+        ≡ after (after a (λ totals. given (with_greatest s totals))) (λ x. given (figures_from s number x))
+    go (given totals) = refl
+    go (refused number values) = refl
+
+pub suite_known : (s : Sheet) (room : ℕ) → suite_of s room ≡ after (task_responses_of s room) (λ x. given (suite_from s x))
+unfolding suite_of task_responses_of
+suite_known s room = go (responses_of s room)
+  where
+    go : (a : Answer Totals) → after a (λ totals. given (report_of s totals)) ≡ after (after a (λ totals. given (with_greatest s totals))) (λ x. given (suite_from s x))
+    go (given totals) = refl
+    go (refused number values) = refl
+
+-- What is in them is what they are made of.
+pub totals_in : (s : Sheet) (room : ℕ) {x : TaskResponses} → task_responses_of s room ≡ given x → responses_of s room ≡ given x.totals
+unfolding task_responses_of
+totals_in s room e = let g = after_given (responses_of s room) _ e in cc (g.1, g.2)
+
+pub summary_in : (s : Sheet) (number room : ℕ) {x : TaskFigures} → task_figures_of s number room ≡ given x → figures_of s number room ≡ given x.summary
+unfolding task_figures_of
+summary_in s number room e = let g = after_given (figures_of s number room) _ e in cc (g.1, g.2)
+
+pub suite_given : (s : Sheet) (room : ℕ) {x : Suite} → suite_of s room ≡ given x → (totals : Totals) × (responses_of s room ≡ given totals) × (report_of s totals ≡ x)
+unfolding suite_of
+suite_given s room e = let g = after_given (responses_of s room) _ e in (g.0, g.1, cc g.2)
 
 pub over_known : (s : Sheet) (number : ℕ) → lacks s number ≡ fine → over_limit s number ≡ after (sizes_of s) (λ size. refused 13 [])
 over_known s number known = known_sizes s number known _
@@ -143,6 +183,14 @@ margin_asked s number room limit h = rw (le-ltb most_limit limit h) (go (named s
     go (given u) (given size) fill sum less = refl
     go (given u) (refused number values) fill sum less = refl
 
+pub margin_tasks : (s : Sheet) (number room limit : ℕ) → limit ≤ most_limit → margin_of s number limit room ≡ after (task_figures_of s number room) (λ x. given (less limit x.summary.worst))
+unfolding task_figures_of
+margin_tasks s number room limit h = margin_asked s number room limit h ∙ go (figures_of s number room)
+  where
+    go : (a : Answer Summary) → after a (λ x. given (less limit x.worst)) ≡ after (after a (λ x. given (with_tasks s x))) (λ x. given (less limit x.summary.worst))
+    go (given x) = refl
+    go (refused number values) = refl
+
 -- ---- where an answer is given
 
 -- A chain on a sheet whose tasks are taken.
@@ -159,6 +207,10 @@ pub filled_ready : (s : Sheet) (old : List ℕ) {table : List ℕ} {totals : Tot
 filled_ready s old e q =
     let g = responses_given s (length old) e in
     ((judged_sound s g.judged_fine, given_taken s (length old) e), (g.hyperperiod_is, filled_holds s old e q))
+
+pub tasks_ready : (s : Sheet) (old : List ℕ) {table : List ℕ} {x : TaskResponses} → task_responses_of s (length old) ≡ given x → table ≡ table_after (task_responses_of s (length old)) (tasks_of s) old
+    → (Sound s × Taken (tasks_of s)) × ((x.totals.hyperperiod ≡ hyperperiod (tasks_of s)) × Holds (tasks_of s) table)
+tasks_ready s old e q = filled_ready s old (totals_in s (length old) e) (q ∙ sym (task_table s (length old) old))
 
 -- The figures that are given: the chain is one of the sheet's and taken, the totals are those of `responses`, and the rest is worked out from
 -- the chain.

@@ -7,22 +7,16 @@ use Rattle.theory.specs.Model.Responses.{response, hyperperiod, task_response}
 use Rattle.theory.specs.Model.Flag.{from_flag}
 use Rattle.theory.specs.Model.Chain.{delay, sampling, sampling_release, bound}
 use Rattle.sheet.specs.declared.Sheet.{Sheet}
-use Rattle.answers.specs.declared.Refusal.{Refusal}
-use Rattle.answers.specs.declared.Refusal.TheVariants.{Number}
-use Rattle.answers.specs.Answers.{Answer, given, refused, Judgement, when, after, also, refusal}
+use Rattle.answers.specs.Answers.{Answer, given, refused, Judgement, when, after, also}
 use Rattle.sheet.specs.Calls.{places, judge_of}
 use Rattle.sheet.specs.Conversions.{old_limit}
 use Rattle.sheet.specs.Tasks.{tasks_of, chain_count, lacks, chain_of, limit_of, first_of, rest_of}
-use Rattle.schedule.specs.Calls.{sizes_of, responses_of}
+use Rattle.schedule.specs.Calls.{sizes_of, responses_of, greatest_after}
 use Rattle.schedule.specs.declared.answer.Totals.{Totals}
 use Rattle.chain.specs.declared.answer.Figure.{Figure}
-use Rattle.chain.specs.declared.answer.Delay.{Delay}
-use Rattle.chain.specs.declared.answer.Delay.TheVariants.{Ticks as DelayTicks, No as NoDelay}
-use Rattle.chain.specs.declared.answer.Margin.{Margin}
-use Rattle.chain.specs.declared.answer.Margin.TheVariants.{Ticks as MarginTicks, No as NoMargin}
+use Rattle.chain.specs.declared.answer.Suite.{Suite}
 use Rattle.chain.specs.declared.answer.Summary.{Summary}
-use Rattle.chain.specs.declared.answer.Figures.{Figures}
-use Rattle.chain.specs.declared.answer.Figures.TheVariants.{Of, No as NoFigures}
+use Rattle.chain.specs.declared.answer.TaskFigures.{TaskFigures}
 
 -- The figures of a chain, by the responses of the full-budget schedule.
 abbrev pub delay_at : List Task → List ℕ → ℕ → ℕ
@@ -107,7 +101,7 @@ margin_of s number limit room =
 abbrev pub default_margin_of : Sheet → ℕ → ℕ → Answer ℤ
 default_margin_of s number room = margin_of s number default_limit room
 
--- The same for every chain of the sheet, in eight places: the summary of chain c + 1 in place c; zeros past the last, and with a refusal.
+-- The same for every chain of the sheet, in eight places: the summary of chain c + 1 in place c; zeros past the last.
 abbrev pub no_summary : Summary
 no_summary = record {
   totals = record { hyperperiod = 0; jobs = 0; idle = 0 };
@@ -125,28 +119,16 @@ abbrev pub summaries_after : Answer Totals → Sheet → List Summary
 summaries_after (given totals) s = summaries_to s totals (chain_count s)
 summaries_after (refused number values) s = replicate 8 no_summary
 
--- Document 01's answer for each case of the code's enums.
-abbrev pub told_delay : Delay → Answer ℕ
-told_delay (DelayTicks ticks) = given ticks
-told_delay (NoDelay r) = refusal r
+-- The summary with R of each task,
+abbrev pub with_tasks : Sheet → Summary → TaskFigures
+with_tasks s x = record { summary = x; greatest = greatest_after (given x) s }
 
-abbrev pub told_margin : Margin → Answer ℤ
-told_margin (MarginTicks ticks) = given ticks
-told_margin (NoMargin r) = refusal r
+unfoldable pub task_figures_of : Sheet → ℕ → ℕ → Answer TaskFigures
+task_figures_of s number room = after (figures_of s number room) λ x. given (with_tasks s x)
 
-abbrev pub told_figures : Figures → Answer Summary
-told_figures (Of summary) = given summary
-told_figures (NoFigures r) = refusal r
+-- and what a report says: the totals with R of each task, and the summary of each chain.
+abbrev pub report_of : Sheet → Totals → Suite
+report_of s totals = record { totals = totals; greatest = greatest_after (given totals) s; chains = summaries_after (given totals) s }
 
--- The refusal in each; number 0, which no refusal has, where there is none.
-abbrev pub delay_refusal : Delay → Refusal
-delay_refusal (DelayTicks ticks) = Number 0
-delay_refusal (NoDelay r) = r
-
-abbrev pub margin_refusal : Margin → Refusal
-margin_refusal (MarginTicks ticks) = Number 0
-margin_refusal (NoMargin r) = r
-
-abbrev pub figures_refusal : Figures → Refusal
-figures_refusal (Of summary) = Number 0
-figures_refusal (NoFigures r) = r
+unfoldable pub suite_of : Sheet → ℕ → Answer Suite
+suite_of s room = after (responses_of s room) λ totals. given (report_of s totals)

@@ -7,14 +7,15 @@ pub mod SuiteLaws
 pub mod CallLaws
 -- What the functions under the calls require and ensure, and laws of it.
 pub mod Conditions
+pub mod Most
+pub mod Paths
 pub mod GreatestLaws
 pub mod MarginLaws
-pub mod ReadLaws
 pub mod Largest
-pub mod WalkLaws
+pub mod PathLaws
 pub mod FollowLaws
 pub mod ReleaseLaws
-pub mod PlanLaws
+pub mod RowLaws
 pub mod FigureLaws
 -- The results: what an answer says of every schedule, and one answer for each input.
 pub mod Results

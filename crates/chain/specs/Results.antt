@@ -1,6 +1,6 @@
 -- Demand 3 in the words of the calls: what an answer says of every schedule of the sheet's tasks, whatever the demands of 1 to C; from a
 -- release, and from a flag that is raised at any tick.
-use Rattle.std.specs.Prelude.{◌≡◌, List, ℕ, ◌+◌, ◌-◌, ◌/◌, ◌%◌, ◌≤◌, ◌<◌, ℤ, pos, length, get_or, ◌≤ℤ◌}
+use Rattle.std.specs.Prelude.{◌≡◌, List, ℕ, ◌+◌, ◌-◌, ◌/◌, ◌%◌, ◌≤◌, ◌<◌, ℤ, pos, length, get_or, ◌≤ℤ◌, Ok}
 use Rattle.std.proofs.Common.{sym, ap, ◌∙◌, subst, le_refl, div-add-mod', arith}
 use Rattle.theory.specs.declared.Task.{Task}
 use Rattle.theory.specs.Model.Schedule.{period, release, Demands, Within, Run, Schedule}
@@ -27,11 +27,11 @@ use Rattle.schedule.specs.Calls.{responses_of}
 use Rattle.schedule.specs.Results.{responses_given}
 use Rattle.chain.specs.declared.answer.Suite.{Suite}
 use Rattle.chain.specs.declared.answer.Summary.{Summary}
-use Rattle.chain.specs.Calls.{report_limit, summary_at, no_summary, summaries_after, delay_of, margin_of, figures_of}
+use Rattle.chain.specs.Calls.{report_limit, summary_at, no_summary, report_of, delay_of, margin_of, figures_of}
 use Rattle.chain.specs.Conditions.{TakenChain}
 use Rattle.chain.specs.MarginLaws.{kept_within}
 use Rattle.chain.specs.ReleaseLaws.{job_release}
-use Rattle.chain.specs.CallLaws.{figures_known, margin_asked, delay_release, delay_given, figures_given, margin_given}
+use Rattle.chain.specs.CallLaws.{figures_known, margin_asked, delay_release, delay_given, figures_given, suite_given, margin_given}
 use Rattle.chain.specs.Promises.{SuitePromise}
 
 -- ---- the words
@@ -194,19 +194,25 @@ figures_margin s number room x answer =
     margin_asked s number room (report_limit s number) g.limit_most ∙ rw (answer) (ap given (sym g.margin_is))
 
 -- What `suite` answers for a chain is what `figures` answers for its number.
-pub suite_figures : (s : Sheet) (old : List ℕ) (r : Suite) (table : List ℕ) (promise : SuitePromise s old r table) {totals : Totals} (answer : responses_of s (length old) ≡ given totals)
-    (number : ℕ) (known : lacks s number ≡ fine) → FiguresAnswers s number (length old) (get_or r.chains (number - 1) no_summary)
-suite_figures s old r table promise {totals} answer number known =
-    figures_known s number known (length old) ∙ ap (λ a. after a (λ totals. given (summary_at s number totals))) answer ∙ ap given (sym place)
+pub suite_figures : (s : Sheet) (old : List ℕ) (x : Suite) (table : List ℕ) (promise : SuitePromise s old (Ok x) table)
+    (number : ℕ) (known : lacks s number ≡ fine) → FiguresAnswers s number (length old) (get_or x.chains (number - 1) no_summary)
+suite_figures s old x table promise number known =
+    figures_known s number known (length old) ∙ ap (λ a. after a (λ totals. given (summary_at s number totals))) filled.1 ∙ ap given (sym place)
   where
+    filled : (totals : Totals) × (responses_of s (length old) ≡ given totals) × (report_of s totals ≡ x)
+    filled = suite_given s (length old) (sym promise.0)
+
+    totals : Totals
+    totals = filled.0
+
     count : (1 ≤ number) × (number ≤ chain_count s)
     count = inside 1 (chain_count s) number (when_fine _ 17 known)
 
-    place : get_or r.chains (number - 1) no_summary ≡ summary_at s number totals
+    place : get_or x.chains (number - 1) no_summary ≡ summary_at s number totals
     place =
-        ap (λ xs. get_or xs (number - 1) no_summary) (promise.2 ∙ ap (λ a. summaries_after a s) answer)
+        ap (λ (x : Suite). get_or x.chains (number - 1) no_summary) (sym filled.2)
         ∙ places_taken 8 no_summary (λ c. summary_at s (c + 1) totals) (chain_count s) no_summary (number - 1) (omega (arith, count))
-        (omega (arith, count, chains_most _ (judged_sound s (responses_given s (length old) answer).judged_fine)))
+        (omega (arith, count, chains_most _ (judged_sound s (responses_given s (length old) filled.1).judged_fine)))
         ∙ ap (λ n. summary_at s n totals) (omega (arith, count))
 
 -- ---- `delay`

@@ -1,7 +1,7 @@
 // What the calls and the functions under them answer.
 
 // H, J and the idle ticks before H.
-#[derive(Clone, Copy, PartialEq, Eq)]
+#[derive(Clone, Copy, Default, PartialEq, Eq)]
 pub struct Totals {
     pub hyperperiod: u32,
     pub jobs: u32,

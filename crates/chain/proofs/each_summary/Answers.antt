@@ -1,41 +1,23 @@
 -- After c turns the first c places hold the summaries of their chains.
-use mathlib.Core.Path.{ap, ap₂, ◌∙◌}
-use Prim.Native.Nat.{◌+◌}
-use native.Mathlib.Omega.{arith}
-use lib.ListN.{set}
+use Rattle.std.proofs.Common.{◌≡◌, ◌+◌, ap, ap₂, ◌∙◌, arith, set, ℕ, ℤ, pos, refl, replicate}
 use Rattle.bits.specs.Bits.{list_of}
 use Rattle.sheet.specs.PlaceLaws.{places_set}
-use Rattle.sheet.specs.Tasks.{chain_count}
-use Rattle.sheet.specs.TaskLaws.{number_known, chains_most}
-use Rattle.chain.specs.Calls.{summary_at, no_summary, summaries_to}
+use Rattle.sheet.specs.TaskLaws.{chains_most}
+use Rattle.chain.specs.declared.answer.Summary.{Summary}
+use Rattle.chain.specs.Calls.{summary_at, no_summary}
 use Rattle.chain.proofs.each_summary.Goals as goal
+
+-- Zeros are the blank summary.
+zeros : {h j i t r q w b : ℕ} {m : ℤ} → h ≡ 0 → j ≡ 0 → i ≡ 0 → t ≡ 0 → r ≡ 0 → q ≡ 0 → w ≡ 0 → b ≡ 0 → m ≡ pos 0
+    → ◌≡◌ {A = Summary} (record { totals = record { hyperperiod = h; jobs = j; idle = i }; sampling = record { ticks = t; release = r }; sampling_bound = q; worst = w; bound = b; margin = m }) no_summary
+zeros h j i t r q w b m = rw (h, j, i, t, r, q, w, b, m) refl
 
 pub loop-c-init : goal.loop-c-init
 unfolding list_of
-loop-c-init c = record {
-  most = omega arith;
-  few = omega (arith, c.chain_count-n.ensures, chains_most _ c.requires.sound.0);
-  count_is = c.chain_count-n.ensures;
-  chains_are = c.no_summaries-chains.ensures;
-}
-
-pub summary_of-requires-clause-number_value : goal.summary_of-requires-clause-number_value
-summary_of-requires-clause-number_value c =
-    number_known c.args.s (c.loop-c.c + 1) (omega arith) (omega (arith, c.loop-c.invariant.count_is))
+loop-c-init c = ap (replicate 8) (let d = c.default-chains.ensures in zeros d.0.0 d.0.1.0 d.0.1.1 d.1.0.0 d.1.0.1 d.1.1.0 d.1.1.1.0 d.1.1.1.1.0 d.1.1.1.1.1)
 
 pub loop-c-preserved : goal.loop-c-preserved
 loop-c-preserved c =
     let l = c.loop-c in
-    let a = c.args in
-    record {
-      most = omega arith;
-      few = l.invariant.few;
-      count_is = l.invariant.count_is;
-      chains_are = ap₂ (λ xs x. set xs l.c x) l.invariant.chains_are c.summary_of.ensures ∙ places_set 8 no_summary (λ c. summary_at a.s (c + 1) a.totals) l.c (omega arith);
-    }
-
-pub returns : goal.returns
-returns c =
-    let l = c.loop-c in
-    let a = c.args in
-    l.invariant.chains_are ∙ ap (summaries_to a.s a.totals) {x = l.c} {y = chain_count a.s} (omega (arith, l.invariant.count_is))
+    ap₂ (λ xs x. set xs l.c x) l.invariant c.summary_of.ensures
+    ∙ places_set 8 no_summary (λ k. summary_at c.args.s.sheet (k + 1) c.args.totals) l.c (omega (arith, c.chain_count-c-end.ensures, chains_most c.args.s.sheet c.args.s.sound))

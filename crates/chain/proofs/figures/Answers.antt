@@ -1,57 +1,57 @@
 -- The table is filled once, and the chain's figures are read from its rows; a refusal on the way is handed up.
-use mathlib.Core.Path.{◌≡◌, sym, ap, ◌∙◌}
-use lib.ListN.{length}
-use Rattle.answers.specs.Answers.{given, fine, refusal}
-use Rattle.answers.specs.AnswerLaws.{refusal_is}
-use Rattle.sheet.specs.Tasks.{lacks}
-use Rattle.schedule.specs.Calls.{responses_of, told_totals}
-use Rattle.schedule.specs.CallLaws.{responses_no, greatest_none, greatest_kept}
-use Rattle.chain.specs.Calls.{summary_at, figures_of}
-use Rattle.chain.specs.CallLaws.{answers_no, answers_given, named_untouched, lacking_no, lacking_fine, figures_known, filled_ready}
+use Rattle.std.proofs.Common.{◌≡◌, sym, ap, ◌∙◌, length}
+use Rattle.std.proofs.lemmas.Result.{err_from_is_err_and}
+use Rattle.answers.specs.Answers.{given, refusal, told}
+use Rattle.theory.specs.Model.Responses.{hyperperiod}
+use Rattle.sheet.specs.Sound.{Sound}
+use Rattle.sheet.specs.Tasks.{tasks_of}
+use Rattle.schedule.specs.Taken.{Taken, Holds}
+use Rattle.chain.specs.Calls.{with_tasks, named, figures_of, task_figures_of}
+use Rattle.chain.specs.CallLaws.{answers_no, answers_given, named_untouched, lacking_no, lacking_fine, task_figures_known, tasks_ready}
+use Rattle.chain.proofs.figures.Goals.{In_ok-filled}
 use Rattle.chain.proofs.figures.Goals as goal
 
-pub returns-in_default : goal.returns-in_default
-unfolding figures_of
-returns-in_default c =
+pub returns-in_err-lacking : goal.returns-in_err-lacking
+unfolding figures_of task_figures_of
+returns-in_err-lacking c =
     let s = c.args.s in
-    let number = c.args.number in
     let old = c.args.table.now in
-    let r = c.refusal_of-refusal.result in
-    let is = c.in_default.is in
-    let e = lacking_no s number c.lacking-v.ensures c.in_default.field-0 is ∙ ap refusal (sym (refusal_is c.refusal_of-refusal.ensures is)) in
-    let ended = answers_no s old _ r e (named_untouched s old r number e) in
-    (ended, greatest_none r s (sym ended.0))
+    let r = c.in_err-lacking.field-0.0 in
+    let p = err_from_is_err_and c.from_residual.result c.from_residual.ensures.1 in
+    let e : named s c.args.number ≡ refusal r = lacking_no s c.args.number c.lacking.ensures r c.in_err-lacking.was in
+    let lack = answers_no s old _ r e (named_untouched s old r c.args.number e) in
+    rw (p.1, p.2) (answers_no s old (λ x. given (with_tasks s x)) r (sym lack.0) lack.1)
 
-pub returns-in_default-answer : goal.returns-in_default-answer
-returns-in_default-answer c =
+pub returns-in_err-filled : goal.returns-in_err-filled
+returns-in_err-filled c =
     let s = c.args.s in
-    let number = c.args.number in
     let old = c.args.table.now in
-    let has : lacks s number ≡ fine = lacking_fine s number c.lacking-v.ensures c.in-Fine.is in
-    let r = c.task_responses-filled in
-    rw (figures_known s number has (length old)) (
-      answers_no s old _ c.responses_refusal-refusal.result (responses_no r.ensures.0.0 c.in_default-answer.is c.responses_refusal-refusal.ensures) r.ensures.0.1,
-      r.ensures.1 ∙ greatest_kept (responses_of s (length old)) (summary_at s number) s,
-    )
+    let p = err_from_is_err_and c.from_residual-in_err-filled.result c.from_residual-in_err-filled.ensures.1 in
+    let has = lacking_fine s c.args.number c.lacking.ensures c.in_ok-lacking.was in
+    rw (p.1, p.2, task_figures_known s c.args.number has (length old))
+    (answers_no s old _ c.in_err-filled.field-0.0 (sym c.task_responses.ensures.0 ∙ ap told c.in_err-filled.was) c.task_responses.ensures.1)
+
+-- The table is filled.
+ready : (c : In_ok-filled) → (Sound c.args.s × Taken (tasks_of c.args.s)) × ((c.in_ok-filled.filled.totals.hyperperiod ≡ hyperperiod (tasks_of c.args.s)) × Holds (tasks_of c.args.s) c.task_responses.new.table)
+ready c = tasks_ready c.args.s c.args.table.now (sym c.task_responses.ensures.0 ∙ ap told c.in_ok-filled.was) c.task_responses.ensures.1
+
+pub invariant_of-judged : goal.invariant_of-judged
+invariant_of-judged c = record { sound = (ready (goal.at.invariant_of-judged c).In_ok-filled).0.0 }
+
+pub rows_of-rows-requires : goal.rows_of-rows-requires
+rows_of-rows-requires c = let r = ready (goal.at.rows_of-rows-requires c).In_ok-filled in record { taken = r.0.1; h_value = r.1.0; holds = r.1.1 }
 
 pub summary_of-summary-requires : goal.summary_of-summary-requires
 summary_of-summary-requires c =
-    let s = c.args.s in
-    let old = c.args.table.now in
-    let r = c.task_responses-filled in
-    let filled : responses_of s (length old) ≡ given c.in-Table.totals = sym r.ensures.0.0 ∙ ap told_totals c.in-Table.is in
-    let ready = filled_ready s old filled r.ensures.0.1 in
-    record { sound = ready.0; number_value = lacking_fine s c.args.number c.lacking-v.ensures c.in-Fine.is; hyperperiod_value = ready.1.0; holds = ready.1.1 }
+    let r = ready (goal.at.summary_of-summary-requires c).In_ok-filled in
+    record { taken = r.0.1; number_value = lacking_fine c.args.s c.args.number c.lacking.ensures c.in_ok-lacking.was; rows_value = c.rows_of-rows.ensures }
 
 pub returns : goal.returns
 returns c =
     let s = c.args.s in
-    let number = c.args.number in
     let old = c.args.table.now in
-    let has : lacks s number ≡ fine = lacking_fine s number c.lacking-v.ensures c.in-Fine.is in
-    let r = c.task_responses-filled in
-    let filled : responses_of s (length old) ≡ given c.in-Table.totals = sym r.ensures.0.0 ∙ ap told_totals c.in-Table.is in
-    rw (figures_known s number has (length old)) (
-      answers_given s old _ filled (ap given (sym c.summary_of-summary.ensures)) r.ensures.0.1,
-      r.ensures.1 ∙ greatest_kept (responses_of s (length old)) (summary_at s number) s,
-    )
+    let filled = c.in_ok-filled.filled in
+    let has = lacking_fine s c.args.number c.lacking.ensures c.in_ok-lacking.was in
+    rw (task_figures_known s c.args.number has (length old))
+    (answers_given s old _ (sym c.task_responses.ensures.0 ∙ ap told c.in_ok-filled.was)
+    (ap (λ x. given (record { summary = x; greatest = filled.greatest })) (sym c.summary_of-summary.ensures)) c.task_responses.ensures.1)

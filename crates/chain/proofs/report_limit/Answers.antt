@@ -11,12 +11,12 @@ use Rattle.chain.specs.SuiteLaws.{report_most}
 use Rattle.chain.proofs.report_limit.Goals as goal
 
 pub returns-then-s-eq1 : goal.returns-then-s-eq1
-returns-then-s-eq1 c = rw (eq-eqb c.args.s.edition 1 c.if-s-eq1.true) (omega arith)
+returns-then-s-eq1 c = rw (eq-eqb c.args.s.sheet.edition 1 c.if-s-eq1.true) (omega arith)
 
 pub returns : goal.returns
 returns c =
-    let s = c.args.s in
+    let s = c.args.s.sheet in
     let number = c.args.number in
     let is : c.chain_of.result.limit ≡ report_limit s number =
-    ap (λ (x : Chain). x.limit) c.chain_of.ensures.0 ∙ sym (ap (λ b. cond b old_limit (limit_of s number)) (ne_eqb s.edition 1 c.if-s-eq1.false)) in
-    (is, omega (arith, is, report_most _ c.requires.sound number c.requires.number_value))
+    ap (λ (x : Chain). x.limit) c.chain_of.ensures.chain_value ∙ sym (ap (λ b. cond b old_limit (limit_of s number)) (ne_eqb s.edition 1 c.if-s-eq1.false)) in
+    (is, omega (arith, is, report_most _ c.args.s.sound number c.requires))

@@ -1,27 +1,41 @@
--- The table is filled once, and the figures of every chain are read from its rows; a refusal leaves zeros.
-use mathlib.Core.Path.{◌≡◌, sym, ap, ◌∙◌}
-use lib.ListN.{length}
-use Rattle.answers.specs.Answers.{given}
-use Rattle.schedule.specs.Calls.{responses_of, told_totals}
-use Rattle.chain.specs.Calls.{summaries_after}
-use Rattle.chain.specs.CallLaws.{filled_ready}
+-- The table is filled once, and the figures of every chain are read from its rows.
+use Rattle.std.proofs.Common.{◌≡◌, sym, ap, ◌∙◌, length}
+use Rattle.std.proofs.lemmas.Result.{err_from_is_err_and}
+use Rattle.theory.specs.Model.Responses.{hyperperiod}
+use Rattle.answers.specs.Answers.{given, told}
+use Rattle.sheet.specs.Sound.{Sound}
+use Rattle.sheet.specs.Tasks.{tasks_of}
+use Rattle.schedule.specs.Taken.{Taken, Holds}
+use Rattle.chain.specs.CallLaws.{answers_no, answers_given, suite_known, tasks_ready}
+use Rattle.chain.proofs.suite.Goals.{In_ok-filled}
 use Rattle.chain.proofs.suite.Goals as goal
 
-pub returns-in_default : goal.returns-in_default
-returns-in_default c =
-    let r = c.task_responses-filled in
-    let refused = sym r.ensures.0.0 ∙ ap told_totals c.in_default.is in
-    (r.ensures.0, r.ensures.1, c.no_summaries-chains.ensures ∙ sym (ap (λ a. summaries_after a c.args.s) refused))
+pub returns-in_err-filled : goal.returns-in_err-filled
+returns-in_err-filled c =
+    let s = c.args.s in
+    let old = c.args.table.now in
+    let p = err_from_is_err_and c.from_residual.result c.from_residual.ensures.1 in
+    rw (p.1, p.2, suite_known s (length old))
+    (answers_no s old _ c.in_err-filled.field-0.0 (sym c.task_responses.ensures.0 ∙ ap told c.in_err-filled.was) c.task_responses.ensures.1)
+
+-- The table is filled.
+ready : (c : In_ok-filled) → (Sound c.args.s × Taken (tasks_of c.args.s)) × ((c.in_ok-filled.filled.totals.hyperperiod ≡ hyperperiod (tasks_of c.args.s)) × Holds (tasks_of c.args.s) c.task_responses.new.table)
+ready c = tasks_ready c.args.s c.args.table.now (sym c.task_responses.ensures.0 ∙ ap told c.in_ok-filled.was) c.task_responses.ensures.1
+
+pub invariant_of-judged : goal.invariant_of-judged
+invariant_of-judged c = record { sound = (ready (goal.at.invariant_of-judged c).In_ok-filled).0.0 }
+
+pub rows_of-rows-requires : goal.rows_of-rows-requires
+rows_of-rows-requires c = let r = ready (goal.at.rows_of-rows-requires c).In_ok-filled in record { taken = r.0.1; h_value = r.1.0; holds = r.1.1 }
 
 pub each_summary-chains-requires : goal.each_summary-chains-requires
-each_summary-chains-requires c =
-    let r = c.task_responses-filled in
-    let filled : responses_of c.args.s (length c.args.table.now) ≡ given c.in-Table.totals = sym r.ensures.0.0 ∙ ap told_totals c.in-Table.is in
-    let ready = filled_ready c.args.s c.args.table.now filled r.ensures.0.1 in
-    record { sound = ready.0; hyperperiod_value = ready.1.0; holds = ready.1.1 }
+each_summary-chains-requires c = record { taken = (ready (goal.at.each_summary-chains-requires c).In_ok-filled).0.1; rows_value = c.rows_of-rows.ensures }
 
 pub returns : goal.returns
 returns c =
-    let r = c.task_responses-filled in
-    let filled : responses_of c.args.s (length c.args.table.now) ≡ given c.in-Table.totals = sym r.ensures.0.0 ∙ ap told_totals c.in-Table.is in
-    ((sym filled, r.ensures.0.1), r.ensures.1, c.each_summary-chains.ensures ∙ sym (ap (λ a. summaries_after a c.args.s) filled))
+    let s = c.args.s in
+    let old = c.args.table.now in
+    let filled = c.in_ok-filled.filled in
+    rw (suite_known s (length old))
+    (answers_given s old _ (sym c.task_responses.ensures.0 ∙ ap told c.in_ok-filled.was)
+    (ap (λ x. given (record { totals = filled.totals; greatest = filled.greatest; chains = x })) (sym c.each_summary-chains.ensures)) c.task_responses.ensures.1)

@@ -1,0 +1,10 @@
+-- Place by place the row of one task more is noted, and the next one starts after it.
+use Rattle.std.proofs.Common.{◌≡◌, length}
+use Rattle.arith.specs.Ranges.{sum}
+use Rattle.theory.specs.Model.Responses.{jobs}
+use Rattle.sheet.specs.Tasks.{tasks_of}
+use Rattle.chain.specs.Paths.{RowsOf}
+use Rattle.chain.proofs.rows_of.Given as goal
+
+abbrev pub invariant-loop-i : goal.invariant-loop-i
+invariant-loop-i l = record { whole : length l.rows ≡ 16; from_is : l.from ≡ sum l.i (jobs (tasks_of l.s.sheet)); noted : RowsOf (tasks_of l.s.sheet) l.i l.rows }

@@ -61,7 +61,7 @@ pub fn put(out: &mut [u8], at: u32, width: u32, value: u32)
     let held = width.min(32);
     for k in 0..held {
         let bit = (value >> (held - 1 - k)) % 2 == 1;
-        put_bit(&mut *out, at as usize + k as usize, bit);
+        put_bit(out, at as usize + k as usize, bit);
     }
 }
 

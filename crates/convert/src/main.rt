@@ -20,7 +20,7 @@ fn converted(edition: u8, bytes: &[u8]) -> Result<Sheet, Refusal> {
 // Its bytes, put into a buffer.
 fn convert<'a>(edition: u8, bytes: &[u8], out: &'a mut [u8]) -> Result<&'a [u8], Refusal> {
     let s = converted(edition, bytes)?;
-    let size = sheet::write(s, &mut *out)?;
+    let size = sheet::write(s, out)?;
     Ok(&out[..size])
 }
 

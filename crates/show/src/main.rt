@@ -8,7 +8,7 @@ use std::fmt::Write;
 // The text of some bytes' sheet, put into a buffer.
 fn show<'a>(bytes: &[u8], out: &'a mut [u8]) -> Result<&'a [u8], Refusal> {
     let s = sheet::read(bytes)?;
-    let size = text::show(s, &mut *out)?;
+    let size = text::show(s, out)?;
     Ok(&out[..size])
 }
 

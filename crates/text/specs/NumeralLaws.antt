@@ -73,7 +73,6 @@ glyph_is : (n : ℕ) → hex_digit_ascii (n % 10) ≡ 48 + n % 10
 glyph_is n = ap (λ b. cond b (48 + n % 10) (87 + n % 10)) (lt-ltb (n % 10) 10 (omega arith))
 
 digit_glyph : (n : ℕ) → digit (hex_digit_ascii (n % 10)) ≡ true
-unfolding digit
 digit_glyph n =
     ap digit (glyph_is n)
     ∙ ap₂ (λ a b. cond a false (cond b false true)) (le-ltb (48 + n % 10) 48 (omega arith)) (le-ltb 57 (48 + n % 10) (omega arith))

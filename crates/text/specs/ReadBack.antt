@@ -1,5 +1,5 @@
 -- The shown text of a sheet that is judged fine, read line by line.
-use Rattle.std.specs.Prelude.{◌≡◌, ◌⊎◌, eqb, set}
+use Rattle.std.specs.Prelude.{◌≡◌, ◌⊎◌, eqb, set, Option, Some, None, Ok}
 use Rattle.std.proofs.Math.Path.{refl, ap}
 use Rattle.std.proofs.Common.{sym, ap₂, ◌∙◌, subst, inl, inr, arith, ne_eqb}
 use Rattle.std.proofs.Math.Bool.{cond}
@@ -18,7 +18,12 @@ use Rattle.sheet.specs.PlaceLaws.{length_places, places_taken, places_set, place
 use Rattle.sheet.specs.SameLaws.{sheet_is}
 use Rattle.sheet.specs.StepLaws.{old_edition, new_edition}
 use Rattle.sheet.specs.Sound.{Within, Sound}
+use Rattle.text.specs.declared.Want.{Want}
+use Rattle.text.specs.declared.Want.TheVariants.{Opening, More, Chain as WantChain}
+use Rattle.text.specs.declared.Edition.{Edition}
+use Rattle.text.specs.declared.Edition.TheVariants.{Two}
 use Rattle.text.specs.declared.Draft.{Draft}
+use Rattle.text.specs.declared.Place.TheVariants.{Between}
 use Rattle.text.specs.Shown.{numeral, task_line, joined, entry_word, limit_word, limit_words, chain_word, chain_line, new_line, chain_count, text_of}
 use Rattle.text.specs.Grammar.{fresh, line_end, text_end, typed}
 use Rattle.text.specs.Run.{run, nameless}
@@ -47,43 +52,43 @@ abbrev no_chains : List Chain
 no_chains = places 8 unused 0 (λ c. unused)
 
 module _ (s : Sheet) (kind : Kind) (sound : Within kind (value s)) (fit : RanksFit s) where
-  task_line_lem : (i want : ℕ) (rest : List ℕ) → (want ≡ 1) ⊎ (want ≡ 3) → i < s.count
-      → run (names i) 0 (tasked no_chains want (tasks_to s i) i) (task_line i (get_or s.tasks i none) ++ rest) ≡ run (names (suc i)) 0 (tasked no_chains 3 (tasks_to s (suc i)) (suc i)) rest
+  task_line_lem : (i : ℕ) (want : Want) (rest : List ℕ) → (want ≡ Opening) ⊎ (want ≡ More) → i < s.count
+      → run (names i) Between (tasked no_chains want (tasks_to s i) i) (task_line i (get_or s.tasks i none) ++ rest) ≡ run (names (suc i)) Between (tasked no_chains More (tasks_to s (suc i)) (suc i)) rest
   task_line_lem i want rest w h =
       let v = value s in
       let t : Task = get_or s.tasks i none in
       task_run no_chains (tasks_to s i) i want t.period t.budget t.rank rest w (omega (arith, sound.count_most)) (omega (arith, sound.count_most, length_places 16 none (task_by v) i))
       (sound.period_least i h) (sound.period_most i h) (sound.budget_least i h) (sound.budget_most i h) (fit i)
       (λ j l e. let q = sound.ranks_differ j i (omega arith) h (sym (ap (λ t. t.rank) (places_taken 16 none (task_by v) i none j l (omega (arith, sound.count_most)))) ∙ e) in omega arith)
-      ∙ ap (λ l. run (names (suc i)) 0 (tasked no_chains 3 l (suc i)) rest)
+      ∙ ap (λ l. run (names (suc i)) Between (tasked no_chains More l (suc i)) rest)
       (places_set 16 none (task_by v) i (omega (arith, sound.count_most)) ∙ ap (tasks_to s) {x = i + 1} {y = suc i} (omega arith))
 
   task_lines_lem : (k i : ℕ) (rest : List ℕ) → i + k ≤ s.count
-      → run (names i) 0 (tasked no_chains 3 (tasks_to s i) i) (joined (λ j. task_line j (get_or s.tasks j none)) i k ++ rest) ≡ run (names (i + k)) 0 (tasked no_chains 3 (tasks_to s (i + k)) (i + k)) rest
+      → run (names i) Between (tasked no_chains More (tasks_to s i) i) (joined (λ j. task_line j (get_or s.tasks j none)) i k ++ rest) ≡ run (names (i + k)) Between (tasked no_chains More (tasks_to s (i + k)) (i + k)) rest
   unfolding joined
-  task_lines_lem zero i rest h = ap (λ m. run (names m) 0 (tasked no_chains 3 (tasks_to s m) m) rest) {x = i} {y = i + 0} (omega arith)
+  task_lines_lem zero i rest h = ap (λ m. run (names m) Between (tasked no_chains More (tasks_to s m) m) rest) {x = i} {y = i + 0} (omega arith)
   task_lines_lem (suc k) i rest h =
       let line = task_line i (get_or s.tasks i none) in
       let left = joined (λ j. task_line j (get_or s.tasks j none)) (suc i) k in
-      ap (run (names i) 0 (tasked no_chains 3 (tasks_to s i) i)) (append_assoc line left rest)
-      ∙ task_line_lem i 3 (left ++ rest) (inr refl) (omega arith) ∙ task_lines_lem k (suc i) rest (omega arith)
-      ∙ ap (λ m. run (names m) 0 (tasked no_chains 3 (tasks_to s m) m) rest) {x = suc i + k} {y = i + suc k} (omega arith)
+      ap (run (names i) Between (tasked no_chains More (tasks_to s i) i)) (append_assoc line left rest)
+      ∙ task_line_lem i More (left ++ rest) (inr refl) (omega arith) ∙ task_lines_lem k (suc i) rest (omega arith)
+      ∙ ap (λ m. run (names m) Between (tasked no_chains More (tasks_to s m) m) rest) {x = suc i + k} {y = i + suc k} (omega arith)
 
   all_tasks : (n : ℕ) (rest : List ℕ) → n ≡ s.count
-      → run nameless 0 fresh (joined (λ j. task_line j (get_or s.tasks j none)) 0 n ++ rest) ≡ run (names n) 0 (tasked no_chains 3 (tasks_to s n) n) rest
+      → run nameless Between fresh (joined (λ j. task_line j (get_or s.tasks j none)) 0 n ++ rest) ≡ run (names n) Between (tasked no_chains More (tasks_to s n) n) rest
   unfolding joined fresh list_of
   all_tasks zero rest e = absurd (omega (arith, sound.count_least))
   all_tasks (suc k) rest e =
       let line = task_line 0 (get_or s.tasks 0 none) in
       let left = joined (λ j. task_line j (get_or s.tasks j none)) 1 k in
-      ap (run nameless 0 fresh) (append_assoc line left rest)
-      ∙ task_line_lem 0 1 (left ++ rest) (inl refl) (omega arith) ∙ task_lines_lem k 1 rest (omega arith)
-      ∙ ap (λ m. run (names m) 0 (tasked no_chains 3 (tasks_to s m) m) rest) {x = 1 + k} {y = suc k} (omega arith)
+      ap (run nameless Between fresh) (append_assoc line left rest)
+      ∙ task_line_lem 0 Opening (left ++ rest) (inl refl) (omega arith) ∙ task_lines_lem k 1 rest (omega arith)
+      ∙ ap (λ m. run (names m) Between (tasked no_chains More (tasks_to s m) m) rest) {x = 1 + k} {y = suc k} (omega arith)
 
 -- ---- the end
 
-ended : (edition c : ℕ) (chains : List Chain) (tasks : List Task) (n : ℕ)
-    → run (names n) 0 (chained tasks n 4 edition chains c) [] ≡ record { draft = chained tasks n 4 edition chains c; rest = [] }
+ended : (edition : Option Edition) (c : ℕ) (chains : List Chain) (tasks : List Task) (n : ℕ)
+    → run (names n) Between (chained tasks n WantChain edition chains c) [] ≡ Ok (chained tasks n WantChain edition chains c)
 unfolding run line_end text_end
 ended edition c chains tasks n = refl
 
@@ -91,11 +96,11 @@ ended edition c chains tasks n = refl
 
 module _ (s : Sheet) (sound : Within new (value s)) where
   -- all tasks and c chains
-  abbrev chains_to : ℕ → ℕ → ℕ → Draft
+  abbrev chains_to : Want → Option Edition → ℕ → Draft
   chains_to want edition c = chained (tasks_to s s.count) s.count want edition (places 8 unused c (chain_by new (value s))) c
 
-  chain_line_lem : (c want edition : ℕ) (rest : List ℕ) → ((want ≡ 3) × (edition ≡ 0)) ⊎ ((want ≡ 4) × (edition ≡ 2)) → c < s.suite
-      → run (names s.count) 0 (chains_to want edition c) (chain_line 2 (get_or s.chains c idle) ++ rest) ≡ run (names s.count) 0 (chains_to 4 2 (suc c)) rest
+  chain_line_lem : (c : ℕ) (want : Want) (edition : Option Edition) (rest : List ℕ) → ((want ≡ More) × (edition ≡ None)) ⊎ ((want ≡ WantChain) × (edition ≡ Some Two)) → c < s.suite
+      → run (names s.count) Between (chains_to want edition c) (chain_line 2 (get_or s.chains c idle) ++ rest) ≡ run (names s.count) Between (chains_to WantChain (Some Two) (suc c)) rest
   chain_line_lem c want edition rest w h =
       let v = value s in
       let n : ℕ = s.count in
@@ -104,36 +109,36 @@ module _ (s : Sheet) (sound : Within new (value s)) where
       let f : ℕ → ℕ = λ x. get_or chain.entries x 0 in
       let here : c < chains new v = omega (arith, sound.chains_are tt) in
       let start = chains_to want edition c in
-      ap (run (names n) 0 start) (new_form (get_or s.chains c idle) rest)
-      ∙ ap (λ k. run (names n) 0 start (chain_word ++ next limit_word (next (numeral chain.limit) (joined (λ x. entry_word (f x)) 0 k ++ (10 ∷ rest)))))
+      ap (run (names n) Between start) (new_form (get_or s.chains c idle) rest)
+      ∙ ap (λ k. run (names n) Between start (chain_word ++ next limit_word (next (numeral chain.limit) (joined (λ x. entry_word (f x)) 0 k ++ (10 ∷ rest)))))
       {x = min m 16} {y = m} (omega (arith, sound.length_most c here, sound.count_most))
       ∙ new_run (tasks_to s n) n (places 8 unused c (chain_by new v)) c f sound.count_most (omega (arith, length_places 8 unused (chain_by new v) c)) want edition m chain.limit rest w
       (sound.limit_most c tt here) (sound.length_least c here) (sound.length_most c here) (λ x l. sound.entry_below c x here l) (sound.entries_differ c here) (omega arith)
-      ∙ ap (λ l. run (names n) 0 (chained (tasks_to s n) n 4 2 l (suc c)) rest)
+      ∙ ap (λ l. run (names n) Between (chained (tasks_to s n) n WantChain (Some Two) l (suc c)) rest)
       (places_set 8 unused (chain_by new v) c (omega arith) ∙ ap (λ k. places 8 unused k (chain_by new v)) {x = c + 1} {y = suc c} (omega arith))
 
   chain_lines_lem : (k c : ℕ) (rest : List ℕ) → c + k ≤ s.suite
-      → run (names s.count) 0 (chains_to 4 2 c) (joined (λ j. chain_line 2 (get_or s.chains j idle)) c k ++ rest) ≡ run (names s.count) 0 (chains_to 4 2 (c + k)) rest
+      → run (names s.count) Between (chains_to WantChain (Some Two) c) (joined (λ j. chain_line 2 (get_or s.chains j idle)) c k ++ rest) ≡ run (names s.count) Between (chains_to WantChain (Some Two) (c + k)) rest
   unfolding joined
-  chain_lines_lem zero c rest h = ap (λ m. run (names s.count) 0 (chains_to 4 2 m) rest) {x = c} {y = c + 0} (omega arith)
+  chain_lines_lem zero c rest h = ap (λ m. run (names s.count) Between (chains_to WantChain (Some Two) m) rest) {x = c} {y = c + 0} (omega arith)
   chain_lines_lem (suc k) c rest h =
       let line = chain_line 2 (get_or s.chains c idle) in
       let left = joined (λ j. chain_line 2 (get_or s.chains j idle)) (suc c) k in
-      ap (run (names s.count) 0 (chains_to 4 2 c)) (append_assoc line left rest)
-      ∙ chain_line_lem c 4 2 (left ++ rest) (inr (refl, refl)) (omega arith) ∙ chain_lines_lem k (suc c) rest (omega arith)
-      ∙ ap (λ m. run (names s.count) 0 (chains_to 4 2 m) rest) {x = suc c + k} {y = c + suc k} (omega arith)
+      ap (run (names s.count) Between (chains_to WantChain (Some Two) c)) (append_assoc line left rest)
+      ∙ chain_line_lem c WantChain (Some Two) (left ++ rest) (inr (refl, refl)) (omega arith) ∙ chain_lines_lem k (suc c) rest (omega arith)
+      ∙ ap (λ m. run (names s.count) Between (chains_to WantChain (Some Two) m) rest) {x = suc c + k} {y = c + suc k} (omega arith)
 
   all_chains : (k : ℕ) → k ≡ s.suite
-      → run (names s.count) 0 (chains_to 3 0 0) (joined (λ j. chain_line 2 (get_or s.chains j idle)) 0 k) ≡ run (names s.count) 0 (chains_to 4 2 k) []
+      → run (names s.count) Between (chains_to More None 0) (joined (λ j. chain_line 2 (get_or s.chains j idle)) 0 k) ≡ run (names s.count) Between (chains_to WantChain (Some Two) k) []
   unfolding joined
   all_chains zero e = absurd (omega (arith, sound.chains_least, sound.chains_are tt))
   all_chains (suc k) e =
       let left = joined (λ j. chain_line 2 (get_or s.chains j idle)) 1 k in
-      chain_line_lem 0 3 0 left (inl (refl, refl)) (omega arith)
-      ∙ ap (run (names s.count) 0 (chains_to 4 2 1)) (sym (append-nil left)) ∙ chain_lines_lem k 1 [] (omega arith)
-      ∙ ap (λ m. run (names s.count) 0 (chains_to 4 2 m) []) {x = 1 + k} {y = suc k} (omega arith)
+      chain_line_lem 0 More None left (inl (refl, refl)) (omega arith)
+      ∙ ap (run (names s.count) Between (chains_to WantChain (Some Two) 1)) (sym (append-nil left)) ∙ chain_lines_lem k 1 [] (omega arith)
+      ∙ ap (λ m. run (names s.count) Between (chains_to WantChain (Some Two) m) []) {x = 1 + k} {y = suc k} (omega arith)
 
-  new_typed : typed (chains_to 4 2 s.suite) ≡ sheet_by new (value s)
+  new_typed : typed (chains_to WantChain (Some Two) s.suite) ≡ sheet_by new (value s)
   unfolding typed
   new_typed =
       let v = value s in
@@ -145,45 +150,43 @@ module _ (s : Sheet) (sound : Within old (value s)) where
   abbrev old_chain : ℕ → Chain
   old_chain c = let chain = get_or s.chains c idle in chain_of (λ x. get_or chain.entries x 0) chain.length 1000
 
-  old_line : run (names s.count) 0 (chained (tasks_to s s.count) s.count 3 0 no_chains 0) (joined (λ j. chain_line 1 (get_or s.chains j idle)) 0 1)
-      ≡ run (names s.count) 0 (chained (tasks_to s s.count) s.count 4 0 (set no_chains 0 (old_chain 0)) 1) []
+  old_line : run (names s.count) Between (chained (tasks_to s s.count) s.count More None no_chains 0) (joined (λ j. chain_line 1 (get_or s.chains j idle)) 0 1)
+      ≡ run (names s.count) Between (chained (tasks_to s s.count) s.count WantChain None (set no_chains 0 (old_chain 0)) 1) []
   unfolding joined
   old_line =
       let n : ℕ = s.count in
       let chain : Chain = get_or s.chains 0 idle in
       let m : ℕ = chain.length in
-      let start = chained (tasks_to s n) n 3 0 no_chains 0 in
-      ap (run (names n) 0 start) (old_form (get_or s.chains 0 idle) [])
-      ∙ ap (λ k. run (names n) 0 start (chain_word ++ (joined (λ x. entry_word (get_or chain.entries x 0)) 0 k ++ (10 ∷ [])))) {x = min m 16} {y = m} (omega (arith, sound.length_most 0 (omega arith), sound.count_most))
+      let start = chained (tasks_to s n) n More None no_chains 0 in
+      ap (run (names n) Between start) (old_form (get_or s.chains 0 idle) [])
+      ∙ ap (λ k. run (names n) Between start (chain_word ++ (joined (λ x. entry_word (get_or chain.entries x 0)) 0 k ++ (10 ∷ [])))) {x = min m 16} {y = m} (omega (arith, sound.length_most 0 (omega arith), sound.count_most))
       ∙ old_run (tasks_to s n) n no_chains 0 (λ x. get_or chain.entries x 0) sound.count_most (omega (arith, length_places 8 unused (λ c. unused) 0)) m []
       (sound.length_least 0 (omega arith)) (sound.length_most 0 (omega arith)) (λ x l. sound.entry_below 0 x (omega arith) l) (sound.entries_differ 0 (omega arith)) (omega arith)
 
-  old_typed : typed (chained (tasks_to s s.count) s.count 4 0 (set no_chains 0 (old_chain 0)) 1) ≡ sheet_by old (value s)
+  old_typed : typed (chained (tasks_to s s.count) s.count WantChain None (set no_chains 0 (old_chain 0)) 1) ≡ sheet_by old (value s)
   unfolding typed list_of
   old_typed = refl
 
 -- ---- the whole text
 
--- Where the reading ends, nothing is wrong, and what was typed is the sheet, its unused places zero.
+-- Nothing is wrong to the end, and what was typed is the sheet, its unused places zero.
 pub record ReadBack (s : Sheet) : Type 0 where
   pub draft : Draft
-  pub reads : run nameless 0 fresh (text_of s) ≡ record { draft = draft; rest = [] }
-  pub right : draft.wrong ≡ 0
+  pub reads : run nameless Between fresh (text_of s) ≡ Ok draft
   pub same : typed draft ≡ cleared s
 
 read_new : (s : Sheet) → (s.edition ≡ 1 → ⊥) → Sound s → RanksFit s → ReadBack s
 unfolding text_of
 read_new s e sound fit =
     record {
-      draft = chains_to s within 4 2 s.suite;
+      draft = chains_to s within WantChain (Some Two) s.suite;
       reads =
-          ap₂ (λ x y. run nameless 0 fresh (joined task 0 x ++ joined (λ c. chain_line y (get_or s.chains c idle)) 0 (chain_count s))) {x = min s.count 16} {y = s.count} (omega (arith, within.count_most)) (within.edition_is tt)
-          ∙ ap (λ k. run nameless 0 fresh (joined task 0 s.count ++ joined chain 0 k)) (ap (λ b. cond b 1 (min s.suite 8)) (ne_eqb s.edition 1 e) ∙ within.chains_are tt)
+          ap₂ (λ x y. run nameless Between fresh (joined task 0 x ++ joined (λ c. chain_line y (get_or s.chains c idle)) 0 (chain_count s))) {x = min s.count 16} {y = s.count} (omega (arith, within.count_most)) (within.edition_is tt)
+          ∙ ap (λ k. run nameless Between fresh (joined task 0 s.count ++ joined chain 0 k)) (ap (λ b. cond b 1 (min s.suite 8)) (ne_eqb s.edition 1 e) ∙ within.chains_are tt)
           ∙ all_tasks s new within fit s.count (joined chain 0 s.suite) refl
           ∙ none_yet
           ∙ all_chains s within s.suite refl
-          ∙ ended 2 s.suite (places 8 unused s.suite (chain_by new v)) (tasks_to s s.count) s.count;
-      right = refl;
+          ∙ ended (Some Two) s.suite (places 8 unused s.suite (chain_by new v)) (tasks_to s s.count) s.count;
       same = new_typed s within ∙ ap (λ k. sheet_by k v) (sym is);
     }
   where
@@ -202,20 +205,19 @@ read_new s e sound fit =
     chain : ℕ → List ℕ
     chain c = chain_line 2 (get_or s.chains c idle)
 
-    none_yet : run (names s.count) 0 (tasked no_chains 3 (tasks_to s s.count) s.count) (joined chain 0 s.suite) ≡ run (names s.count) 0 (chains_to s within 3 0 0) (joined chain 0 s.suite)
-    none_yet = ap (λ l. run (names s.count) 0 (chained (tasks_to s s.count) s.count 3 0 l 0) (joined chain 0 s.suite)) (places_none 8 unused (λ c. unused) ∙ sym (places_none 8 unused (chain_by new v)))
+    none_yet : run (names s.count) Between (tasked no_chains More (tasks_to s s.count) s.count) (joined chain 0 s.suite) ≡ run (names s.count) Between (chains_to s within More None 0) (joined chain 0 s.suite)
+    none_yet = ap (λ l. run (names s.count) Between (chained (tasks_to s s.count) s.count More None l 0) (joined chain 0 s.suite)) (places_none 8 unused (λ c. unused) ∙ sym (places_none 8 unused (chain_by new v)))
 
 read_old : (s : Sheet) → s.edition ≡ 1 → Sound s → RanksFit s → ReadBack s
 unfolding text_of
 read_old s e sound fit =
     record {
-      draft = chained (tasks_to s s.count) s.count 4 0 (set no_chains 0 (old_chain s within 0)) 1;
+      draft = chained (tasks_to s s.count) s.count WantChain None (set no_chains 0 (old_chain s within 0)) 1;
       reads =
-          ap₂ (λ x y. run nameless 0 fresh (joined task 0 x ++ joined (λ c. chain_line y (get_or s.chains c idle)) 0 (cond (eqb y 1) 1 (min s.suite 8)))) {x = min s.count 16} {y = s.count} (omega (arith, within.count_most)) e
+          ap₂ (λ x y. run nameless Between fresh (joined task 0 x ++ joined (λ c. chain_line y (get_or s.chains c idle)) 0 (cond (eqb y 1) 1 (min s.suite 8)))) {x = min s.count 16} {y = s.count} (omega (arith, within.count_most)) e
           ∙ all_tasks s old within fit s.count (joined (λ c. chain_line 1 (get_or s.chains c idle)) 0 1) refl
           ∙ old_line s within
-          ∙ ended 0 1 (set no_chains 0 (old_chain s within 0)) (tasks_to s s.count) s.count;
-      right = refl;
+          ∙ ended None 1 (set no_chains 0 (old_chain s within 0)) (tasks_to s s.count) s.count;
       same = old_typed s within ∙ ap (λ k. sheet_by k v) (sym is);
     }
   where

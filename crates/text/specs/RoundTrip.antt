@@ -1,5 +1,5 @@
 -- Reading the shown text gives back the same sheet, from call to call.
-use Rattle.std.specs.Prelude.{◌≡◌, cond, List, [], ℕ, ltb, length, take, drop, Ok}
+use Rattle.std.specs.Prelude.{◌≡◌, cond, List, ℕ, ltb, length, take, drop, Result, Ok, Err}
 use Rattle.std.proofs.Common.{sym, ap, ap₂, ◌∙◌, arith, take_at, le-ltb}
 use Rattle.answers.specs.Answers.{given, fine, when, also}
 use Rattle.answers.specs.AnswerLaws.{also_given}
@@ -9,12 +9,12 @@ use Rattle.sheet.specs.Calls.{judge_of, RanksFit, cleared, read_of}
 use Rattle.sheet.specs.Promises.{ReadPromise}
 use Rattle.sheet.specs.EncodedLaws.{encoded_read, read_encoded, read_judged}
 use Rattle.sheet.specs.SoundLaws.{judged_sound}
-use Rattle.text.specs.declared.Parsed.{Parsed}
+use Rattle.text.specs.declared.Fault.{Fault}
+use Rattle.text.specs.declared.Wrong.TheVariants.{TooLong}
 use Rattle.text.specs.Shown.{text_of}
-use Rattle.text.specs.Run.{faulty, settled, parse_of}
+use Rattle.text.specs.Run.{faulty, located, settled, parse_of}
 use Rattle.text.specs.Calls.{show_of}
 use Rattle.text.specs.Promises.{ShowPromise, ParsePromise}
-use Rattle.text.specs.RunLaws.{settled_fine}
 use Rattle.text.specs.SizeLaws.{text_short}
 use Rattle.text.specs.ReadBack.{read_back}
 
@@ -27,22 +27,20 @@ shown_fine s room n e =
     let c = b.1 in (a.0, cc)
 
 -- The text of a sheet that is judged fine says that sheet.
-pub parse_text : (s : Sheet) → judge_of s ≡ fine → RanksFit s → parse_of (text_of s) ≡ record { fault = 0; line = 0; column = 0; sheet = cleared s }
+pub parse_text : (s : Sheet) → judge_of s ≡ fine → RanksFit s → parse_of (text_of s) ≡ Ok (cleared s)
 unfolding parse_of
 parse_text s e fit =
     let text = text_of s in
     let r = read_back s (judged_sound s e) fit in
-    ap₂ (λ t y. cond t (faulty 24 (take 16384 text)) (settled text y)) (le-ltb 16384 (length text) (omega (arith, text_short s))) r.reads
-    ∙ settled_fine text r.draft [] r.right ∙ ap (λ x. record { fault = 0; line = 0; column = 0; sheet = x }) r.same
+    ap₂ (λ t y. cond t (Err (faulty TooLong (take 16384 text))) (settled (located text y))) (le-ltb 16384 (length text) (omega (arith, text_short s))) r.reads
+    ∙ ap Ok r.same
 
 -- What `show` put into the first n bytes, `parse` answers with the same sheet, the unused places zero.
-pub show_parse : (s : Sheet) (old new : List ℕ) (n : ℕ) (x : Parsed) → RanksFit s → ShowPromise s old (Ok n) new → ParsePromise (take n new) x
-    → (x.fault ≡ 0) × (x.sheet ≡ cleared s)
+pub show_parse : (s : Sheet) (old new : List ℕ) (n : ℕ) (x : Result Sheet Fault) → RanksFit s → ShowPromise s old (Ok n) new → ParsePromise (take n new) x → x ≡ Ok (cleared s)
 show_parse s old new n x fit h p =
     let f = shown_fine s (length old) n (sym h.0) in
     let front : take n new ≡ text_of s = ap (take n) h.1 ∙ take_at (text_of s) (drop (length (text_of s)) old) n (sym f.1) in
-    let e = p ∙ ap parse_of front ∙ parse_text s f.0 fit in
-    (ap (λ y. y.fault) e, ap (λ y. y.sheet) e)
+    p ∙ ap parse_of front ∙ parse_text s f.0 fit
 
 -- a sheet that was read has its unused places zero
 read_cleared : (bytes : List ℕ) (s : Sheet) → AreBytes bytes → read_of bytes ≡ given s → cleared s ≡ s
@@ -51,9 +49,8 @@ read_cleared bytes s fit e =
     let q : given (cleared s) ≡ given s = sym (encoded_read s j.1 j.0) ∙ ap read_of (read_encoded bytes s fit e) ∙ e in cc
 
 -- So what stands on the page is what the bytes say: the sheet that was read from them is the one that its text says.
-pub read_show_parse : (bytes old new : List ℕ) (s : Sheet) (n : ℕ) (x : Parsed) → AreBytes bytes → ReadPromise bytes (Ok s)
-    → ShowPromise s old (Ok n) new → ParsePromise (take n new) x → (x.fault ≡ 0) × (x.sheet ≡ s)
+pub read_show_parse : (bytes old new : List ℕ) (s : Sheet) (n : ℕ) (x : Result Sheet Fault) → AreBytes bytes → ReadPromise bytes (Ok s)
+    → ShowPromise s old (Ok n) new → ParsePromise (take n new) x → x ≡ Ok s
 read_show_parse bytes old new s n x fit r shown parsed =
     let e : read_of bytes ≡ given s = sym r in
-    let p = show_parse s old new n x (read_judged bytes s e).1 shown parsed in
-    (p.0, p.1 ∙ read_cleared bytes s fit e)
+    show_parse s old new n x (read_judged bytes s e).1 shown parsed ∙ ap Ok (read_cleared bytes s fit e)

@@ -1,37 +1,56 @@
 -- A text read byte by byte: words, line ends and comments.
-use Rattle.std.specs.Prelude.{Bool, true, false, cond, List, [], ◌∷◌, ℕ, ◌+◌, ◌-◌, ltb, eqb, length, take, set, replicate}
-use Rattle.sheet.specs.Answers.{blank}
+use Rattle.std.specs.Prelude.{Bool, true, false, cond, List, [], ◌∷◌, ℕ, ◌+◌, ◌-◌, ltb, eqb, length, take, set, replicate, Result, Ok, Err}
+use Rattle.sheet.specs.declared.Sheet.{Sheet}
+use Rattle.text.specs.declared.Want.{Want}
+use Rattle.text.specs.declared.Want.TheVariants.{Name}
+use Rattle.text.specs.declared.Wrong.{Wrong}
+use Rattle.text.specs.declared.Wrong.TheVariants.{TooLong}
+use Rattle.text.specs.declared.Fault.{Fault}
 use Rattle.text.specs.declared.Draft.{Draft}
-use Rattle.text.specs.declared.Parsed.{Parsed}
+use Rattle.text.specs.declared.Place.{Place}
+use Rattle.text.specs.declared.Place.TheVariants.{Between, Word as InWord, Comment}
 use Rattle.text.specs.Words.{ends, word, says}
-use Rattle.text.specs.Grammar.{want_name, too_long, fresh, step, line_end, text_end, typed}
+use Rattle.text.specs.Grammar.{fresh, step, line_end, text_end, typed}
 
--- Between words is 0, in a word 1, in a comment 2.
-unfoldable pub place_after : ℕ → ℕ → ℕ
-place_after p b = cond (eqb b 10) 0 (cond (eqb p 2) 2 (cond (eqb b 35) 2 (cond (ends b) 0 1)))
+-- Where the byte after this one stands on the same line: a comment goes to its end.
+abbrev pub place_on : Place → ℕ → Place
+place_on Comment b = Comment
+place_on p b = cond (eqb b 35) Comment (cond (ends b) Between InWord)
+
+-- The end of a line ends all.
+unfoldable pub place_after : Place → ℕ → Place
+place_after p b = cond (eqb b 10) Between (place_on p b)
 
 -- A word begins at this byte.
-unfoldable pub begins : ℕ → ℕ → Bool
-begins p b = cond (eqb p 0) (cond (ends b) false true) false
+unfoldable pub begins : Place → ℕ → Bool
+begins Between b = cond (ends b) false true
+begins p b = false
 
 -- What the byte at the front of what is left does.
-unfoldable pub turn : List (List ℕ) → ℕ → Draft → ℕ → List ℕ → Draft
-turn names p d b w = cond (eqb b 10) (line_end d) (cond (begins p b) (step (says names d.count w) d) d)
+unfoldable pub turn : List (List ℕ) → Place → Draft → ℕ → List ℕ → Result Draft Wrong
+turn names p d b w = cond (eqb b 10) (line_end d) (cond (begins p b) (step (says names d.count w) d) (Ok d))
 
--- The names that tasks have: that of the task being read too, where a name is wanted.
-unfoldable pub named : List (List ℕ) → ℕ → Draft → ℕ → List ℕ → List (List ℕ)
-named names p d b w = cond (begins p b) (cond (eqb d.want want_name) (set names d.count w) names) names
+-- The names that tasks have: that of task k, which is being read, too, where a name is wanted.
+abbrev pub named_at : Want → List (List ℕ) → ℕ → List ℕ → List (List ℕ)
+named_at Name names k w = set names k w
+named_at want names k w = names
 
--- Where the reading ended: what was typed, and what is left from there on.
-pub record Ending : Type 0 where
-  pub draft : Draft
+unfoldable pub named : List (List ℕ) → Place → Draft → ℕ → List ℕ → List (List ℕ)
+named names p d b w = cond (begins p b) (named_at d.want names d.count w) names
+
+-- What is wrong, and what is left of the text from there on.
+pub record Stop : Type 0 where
+  pub wrong : Wrong
   pub rest : List ℕ
 
-unfoldable pub run : List (List ℕ) → ℕ → Draft → List ℕ → Ending
-run names p d [] = record { draft = text_end (line_end d); rest = [] }
-run names p d (b ∷ bs) =
-    let e = turn names p d b (word (b ∷ bs)) in
-    cond (eqb e.wrong 0) (run (named names p d b (word (b ∷ bs))) (place_after p b) e bs) (record { draft = e; rest = b ∷ bs })
+-- What comes next, unless something is wrong where so much is left.
+abbrev pub goes_on : List ℕ → Result Draft Wrong → (Draft → Result Draft Stop) → Result Draft Stop
+goes_on rest (Ok d) next = next d
+goes_on rest (Err wrong) next = Err (record { wrong = wrong; rest = rest })
+
+unfoldable pub run : List (List ℕ) → Place → Draft → List ℕ → Result Draft Stop
+run names p d [] = goes_on [] (text_end d) (λ e. Ok e)
+run names p d (b ∷ bs) = goes_on (b ∷ bs) (turn names p d b (word (b ∷ bs))) (λ e. run (named names p d b (word (b ∷ bs))) (place_after p b) e bs)
 
 abbrev pub nameless : List (List ℕ)
 nameless = replicate 16 []
@@ -47,14 +66,21 @@ column_after column [] = column
 column_after column (b ∷ bs) = column_after (cond (eqb b 10) 1 (column + 1)) bs
 
 -- What is wrong, after so much of the text.
-abbrev pub faulty : ℕ → List ℕ → Parsed
-faulty fault front = record { fault = fault; line = line_after 1 front; column = column_after 1 front; sheet = blank }
+abbrev pub faulty : Wrong → List ℕ → Fault
+faulty wrong front = record { wrong = wrong; line = line_after 1 front; column = column_after 1 front }
 
-unfoldable pub settled : List ℕ → Ending → Parsed
-settled text e =
-    cond (eqb e.draft.wrong 0) (record { fault = 0; line = 0; column = 0; sheet = typed e.draft })
-    (faulty e.draft.wrong (take (length text - length e.rest) text))
+abbrev pub placed : List ℕ → Result Draft Wrong → Result Draft Fault
+placed front (Ok d) = Ok d
+placed front (Err wrong) = Err (faulty wrong front)
+
+abbrev pub located : List ℕ → Result Draft Stop → Result Draft Fault
+located text (Ok d) = Ok d
+located text (Err stop) = placed (take (length text - length stop.rest) text) (Err stop.wrong)
+
+abbrev pub settled : Result Draft Fault → Result Sheet Fault
+settled (Ok d) = Ok (typed d)
+settled (Err fault) = Err fault
 
 -- "texts over 16 KiB are refused as too long"
-unfoldable pub parse_of : List ℕ → Parsed
-parse_of text = cond (ltb 16384 (length text)) (faulty too_long (take 16384 text)) (settled text (run nameless 0 fresh text))
+unfoldable pub parse_of : List ℕ → Result Sheet Fault
+parse_of text = cond (ltb 16384 (length text)) (Err (faulty TooLong (take 16384 text))) (settled (located text (run nameless Between fresh text)))

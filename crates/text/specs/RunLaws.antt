@@ -1,93 +1,89 @@
 -- Laws of the reading, byte by byte: what is left of a text gives the whole.
-use Rattle.std.specs.Prelude.{◌≡◌, refl, Bool, true, false, cond, List, [], eqb, length, get_or, set, take, drop, replicate}
-use Rattle.std.proofs.Common.{sym, ◌∙◌, arith, length-drop, length-set, drop-cons, eq-eqb, ne_eqb}
+use Rattle.std.specs.Prelude.{◌≡◌, refl, List, [], eqb, length, get_or, take, drop, Result, Ok, Err}
+use Rattle.std.proofs.Common.{sym, ◌∙◌, arith, length-drop, drop-cons, drop_of_length-le, take_all, eq-eqb, ne_eqb}
 use Rattle.std.proofs.Math.Path.{ap, ap₂}
+use Rattle.std.proofs.Math.Bool.{cond}
 use Prim.Native.Nat.{ℕ, suc, ◌+◌, ◌-◌, ◌≤◌, ◌<◌}
+use Rattle.text.specs.declared.Wrong.{Wrong}
+use Rattle.text.specs.declared.Fault.{Fault}
 use Rattle.text.specs.declared.Draft.{Draft}
+use Rattle.text.specs.declared.Place.{Place}
 use Rattle.text.specs.Words.{word}
-use Rattle.text.specs.Grammar.{typed}
-use Rattle.text.specs.Run.{Ending, place_after, begins, turn, named, run, nameless, line_after, column_after, faulty, settled}
-use Rattle.text.specs.Conditions.{names_at}
-use Rattle.text.specs.WordLaws.{word_none, map_set}
+use Rattle.text.specs.Grammar.{text_end}
+use Rattle.text.specs.Run.{Stop, placed, goes_on, place_after, turn, named, run, line_after, column_after, faulty, located}
 
 -- what a byte leads to
-abbrev led : List (List ℕ) → ℕ → Draft → ℕ → List ℕ → List ℕ → Ending
-led names p d b l rest =
-    let e = turn names p d b (word l) in
-    cond (eqb e.wrong 0) (run (named names p d b (word l)) (place_after p b) e rest) (record { draft = e; rest = l })
+abbrev led : List (List ℕ) → Place → Draft → ℕ → List ℕ → List ℕ → Result Draft Stop
+led names p d b l rest = goes_on l (turn names p d b (word l)) (λ e. run (named names p d b (word l)) (place_after p b) e rest)
 
-module _ (names : List (List ℕ)) (p : ℕ) (d : Draft) (text : List ℕ) (at : ℕ) (h : at < length text) where
-  run_at : run names p d (drop at text) ≡ led names p d (get_or text at 10) (drop at text) (drop (at + 1) text)
+module _ (names : List (List ℕ)) (p : Place) (d : Draft) (text : List ℕ) (at : ℕ) (rest : List ℕ) (h : at < length text) (are : rest ≡ drop at text) where
+  run_at : run names p d (drop at text) ≡ led names p d (get_or text at 0) rest (drop (at + 1) text)
   unfolding run
   run_at =
-      ap (run names p d) (drop-cons text at 10 h)
-      ∙ ap₂ (λ l k. led names p d (get_or text at 10) l (drop k text)) {u = suc at} {v = at + 1} (sym (drop-cons text at 10 h)) (omega arith)
+      ap (run names p d) (drop-cons text at 0 h)
+      ∙ ap₂ (λ l k. led names p d (get_or text at 0) l (drop k text)) {u = suc at} {v = at + 1} (sym (drop-cons text at 0 h) ∙ sym are) (omega arith)
 
-  pub run_stop : (e : Draft) → e ≡ turn names p d (get_or text at 10) (word (drop at text)) → (e.wrong ≡ 0 → ⊥) → run names p d (drop at text) ≡ record { draft = e; rest = drop at text }
-  run_stop e q w =
-      run_at
-      ∙ ap (λ t. cond (eqb t.wrong 0) (run (named names p d (get_or text at 10) (word (drop at text))) (place_after p (get_or text at 10)) t (drop (at + 1) text)) (record { draft = t; rest = drop at text })) (sym q)
-      ∙ ap (λ b. cond b (run (named names p d (get_or text at 10) (word (drop at text))) (place_after p (get_or text at 10)) e (drop (at + 1) text)) (record { draft = e; rest = drop at text })) (ne_eqb e.wrong 0 w)
+  located_at : (wrong : Wrong) → located text (Err (record { wrong = wrong; rest = rest })) ≡ Err (faulty wrong (take at text))
+  located_at wrong = ap (λ k. Err (faulty wrong (take k text))) {x = length text - length rest} {y = at} (omega (arith, length-drop at text, ap length are))
 
-  pub run_on : (e : Draft) → e ≡ turn names p d (get_or text at 10) (word (drop at text)) → e.wrong ≡ 0
-      → run names p d (drop at text) ≡ run (named names p d (get_or text at 10) (word (drop at text))) (place_after p (get_or text at 10)) e (drop (at + 1) text)
-  run_on e q w =
-      run_at
-      ∙ ap (λ t. cond (eqb t.wrong 0) (run (named names p d (get_or text at 10) (word (drop at text))) (place_after p (get_or text at 10)) t (drop (at + 1) text)) (record { draft = t; rest = drop at text })) (sym q)
-      ∙ ap (λ b. cond b (run (named names p d (get_or text at 10) (word (drop at text))) (place_after p (get_or text at 10)) e (drop (at + 1) text)) (record { draft = e; rest = drop at text })) (eq-eqb e.wrong 0 w)
+  led_by : Result Draft Wrong → Result Draft Stop
+  led_by r = goes_on rest r (λ e. run (named names p d (get_or text at 0) (word rest)) (place_after p (get_or text at 0)) e (drop (at + 1) text))
 
--- ---- the names, by the places where they begin
+  pub run_stop : (r : Result Draft Wrong) (fault : Fault) → r ≡ turn names p d (get_or text at 0) (word rest) → placed (take at text) r ≡ Err fault
+      → located text (run names p d (drop at text)) ≡ Err fault
+  unfolding led_by
+  run_stop (Ok e) fault q s = cc
+  run_stop (Err wrong) fault q s = ap (located text) (run_at ∙ ap led_by (sym q)) ∙ located_at wrong ∙ s
 
-pub names_none : (text : List ℕ) → names_at text (replicate 16 (length text)) ≡ nameless
-names_none text = ap (λ w. replicate 16 w) (word_none text (length text) (omega arith))
-
-pub names_kept : (text starts : List ℕ) (k at : ℕ) (x y : Bool)
-    → cond x (cond y (set (names_at text starts) k (word (drop at text))) (names_at text starts)) (names_at text starts) ≡ names_at text (cond x (cond y (set starts k at) starts) starts)
-names_kept text starts k at true true = sym (map_set (λ p. word (drop p text)) starts k at)
-names_kept text starts k at true false = refl
-names_kept text starts k at false y = refl
-
-pub named_is : (text starts after : List ℕ) (p : ℕ) (d : Draft) (b at : ℕ) (x : Bool) → x ≡ begins p b
-    → after ≡ cond x (cond (eqb d.want 7) (set starts d.count at) starts) starts → named (names_at text starts) p d b (word (drop at text)) ≡ names_at text after
-unfolding named
-named_is text starts after p d b at x e q =
-    ap (λ t. cond t (cond (eqb d.want 7) (set (names_at text starts) d.count (word (drop at text))) (names_at text starts)) (names_at text starts)) (sym e)
-    ∙ names_kept text starts d.count at x (eqb d.want 7) ∙ ap (names_at text) (sym q)
-
-pub kept_length : (x y : Bool) (l : List ℕ) (k at : ℕ) → length (cond x (cond y (set l k at) l) l) ≡ length l
-kept_length true true l k at = length-set l k at
-kept_length true false l k at = refl
-kept_length false y l k at = refl
+  pub run_on : (r : Result Draft Wrong) (e : Draft) → r ≡ turn names p d (get_or text at 0) (word rest) → placed (take at text) r ≡ Ok e
+      → run names p d (drop at text) ≡ run (named names p d (get_or text at 0) (word rest)) (place_after p (get_or text at 0)) e (drop (at + 1) text)
+  unfolding led_by
+  run_on (Ok x) e q s = run_at ∙ ap led_by (sym q) ∙ ap (λ y. run (named names p d (get_or text at 0) (word rest)) (place_after p (get_or text at 0)) y (drop (at + 1) text)) (same s)
+    where
+      same : ◌≡◌ {A = Result Draft Fault} (Ok x) (Ok e) → x ≡ e
+      same z = cc
+  run_on (Err wrong) e q s = cc
 
 -- ---- lines and columns
 
-pub line_on : (l : List ℕ) (i line : ℕ) → i < length l → line_after line (drop i l) ≡ line_after (cond (eqb (get_or l i 0) 10) (line + 1) line) (drop (i + 1) l)
+line_on : (l : List ℕ) (i line : ℕ) → i < length l → line_after line (drop i l) ≡ line_after (cond (eqb (get_or l i 0) 10) (line + 1) line) (drop (i + 1) l)
 unfolding line_after
 line_on l i line h =
     ap (line_after line) (drop-cons l i 0 h) ∙ ap (λ k. line_after (cond (eqb (get_or l i 0) 10) (line + 1) line) (drop k l)) {x = suc i} {y = i + 1} (omega arith)
 
-pub column_on : (l : List ℕ) (i column : ℕ) → i < length l → column_after column (drop i l) ≡ column_after (cond (eqb (get_or l i 0) 10) 1 (column + 1)) (drop (i + 1) l)
+column_on : (l : List ℕ) (i column : ℕ) → i < length l → column_after column (drop i l) ≡ column_after (cond (eqb (get_or l i 0) 10) 1 (column + 1)) (drop (i + 1) l)
 unfolding column_after
 column_on l i column h =
     ap (column_after column) (drop-cons l i 0 h) ∙ ap (λ k. column_after (cond (eqb (get_or l i 0) 10) 1 (column + 1)) (drop k l)) {x = suc i} {y = i + 1} (omega arith)
 
-pub line_none : (l : List ℕ) (line : ℕ) → l ≡ [] → line_after line l ≡ line
+-- a byte that ends the line, and any other
+module _ (l : List ℕ) (i x y : ℕ) (h : i < length l) where
+  pub line_ends : get_or l i 0 ≡ 10 → y ≡ x + 1 → line_after x (drop i l) ≡ line_after y (drop (i + 1) l)
+  line_ends e q = line_on l i x h ∙ ap₂ (λ t z. line_after (cond t z x) (drop (i + 1) l)) (eq-eqb (get_or l i 0) 10 e) (sym q)
+
+  pub line_stays : (get_or l i 0 ≡ 10 → ⊥) → y ≡ x → line_after x (drop i l) ≡ line_after y (drop (i + 1) l)
+  line_stays e q = line_on l i x h ∙ ap₂ (λ t z. line_after (cond t (x + 1) z) (drop (i + 1) l)) (ne_eqb (get_or l i 0) 10 e) (sym q)
+
+  pub column_ends : get_or l i 0 ≡ 10 → y ≡ 1 → column_after x (drop i l) ≡ column_after y (drop (i + 1) l)
+  column_ends e q = column_on l i x h ∙ ap₂ (λ t z. column_after (cond t z (x + 1)) (drop (i + 1) l)) (eq-eqb (get_or l i 0) 10 e) (sym q)
+
+  pub column_stays : (get_or l i 0 ≡ 10 → ⊥) → y ≡ x + 1 → column_after x (drop i l) ≡ column_after y (drop (i + 1) l)
+  column_stays e q = column_on l i x h ∙ ap₂ (λ t z. column_after (cond t 1 z) (drop (i + 1) l)) (ne_eqb (get_or l i 0) 10 e) (sym q)
+
+pub line_none : (l : List ℕ) (i line : ℕ) → length l ≤ i → line_after line (drop i l) ≡ line
 unfolding line_after
-line_none l line e = ap (line_after line) e
+line_none l i line h = ap (line_after line) (drop_of_length-le l h)
 
-pub column_none : (l : List ℕ) (column : ℕ) → l ≡ [] → column_after column l ≡ column
+pub column_none : (l : List ℕ) (i column : ℕ) → length l ≤ i → column_after column (drop i l) ≡ column
 unfolding column_after
-column_none l column e = ap (column_after column) e
+column_none l i column h = ap (column_after column) (drop_of_length-le l h)
 
--- ---- the answer
+-- ---- the end
 
-pub settled_fine : (text : List ℕ) (d : Draft) (rest : List ℕ) → d.wrong ≡ 0 → settled text (record { draft = d; rest = rest }) ≡ record { fault = 0; line = 0; column = 0; sheet = typed d }
-unfolding settled
-settled_fine text d rest e =
-    ap (λ b. cond b (record { fault = 0; line = 0; column = 0; sheet = typed d }) (faulty d.wrong (take (length text - length rest) text))) (eq-eqb d.wrong 0 e)
-
-pub settled_faulty : (text : List ℕ) (d : Draft) (at : ℕ) → at ≤ length text → (d.wrong ≡ 0 → ⊥) → settled text (record { draft = d; rest = drop at text }) ≡ faulty d.wrong (take at text)
-unfolding settled
-settled_faulty text d at h e =
-    ap (λ b. cond b (record { fault = 0; line = 0; column = 0; sheet = typed d }) (faulty d.wrong (take (length text - length (drop at text)) text))) (ne_eqb d.wrong 0 e)
-    ∙ ap (λ k. faulty d.wrong (take k text)) {x = length text - length (drop at text)} {y = at} (omega (arith, length-drop at text))
+pub run_end : (names : List (List ℕ)) (p : Place) (d : Draft) (text : List ℕ) (at : ℕ) → length text ≤ at → located text (run names p d (drop at text)) ≡ placed text (text_end d)
+unfolding run
+run_end names p d text at h = ap (λ l. located text (run names p d l)) (drop_of_length-le text h) ∙ go (text_end d)
+  where
+    go : (r : Result Draft Wrong) → located text (goes_on [] r (λ e. Ok e)) ≡ placed text r
+    go (Ok e) = refl
+    go (Err wrong) = ap (λ l. Err (faulty wrong l)) (take_all (length text - 0) text (omega arith))

@@ -14,3 +14,9 @@ joined_suc f i (suc k) =
 pub joined_snoc : (f : ℕ → List ℕ) (k : ℕ) → joined f 0 k ++ f k ≡ joined f 0 (k + 1)
 joined_snoc f k =
     ap (λ j. joined f 0 k ++ f j) {x = k} {y = 0 + k} (omega arith) ∙ sym (joined_suc f 0 k) ∙ ap (joined f 0) {x = suc k} {y = k + 1} (omega arith)
+
+pub appended_four : (s a b c d : List ℕ) → (((s ++ a) ++ b) ++ c) ++ d ≡ s ++ (a ++ (b ++ (c ++ d)))
+appended_four s a b c d = simp append_assoc
+
+pub appended_five : (s a b c d e : List ℕ) → ((((s ++ a) ++ b) ++ c) ++ d) ++ e ≡ s ++ (a ++ (b ++ (c ++ (d ++ e))))
+appended_five s a b c d e = simp append_assoc

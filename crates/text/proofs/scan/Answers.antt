@@ -1,59 +1,34 @@
--- What is left of the text, read from the draft so far, gives what the whole gives.
-use mathlib.Core.Path.{◌≡◌, refl, sym, ap, ap₂, ◌∙◌}
-use mathlib.Core.List.{[]}
-use Prim.Native.Nat.{◌+◌}
-use native.Mathlib.Omega.{arith}
-use lib.Dec.{eqb}
-use lib.ListN.{length, get_or, drop, drop_of_length-le}
-use Rattle.text.specs.Grammar.{text_end}
-use Rattle.text.specs.Run.{place_after, begins, run}
-use Rattle.text.specs.Conditions.{names_at}
-use Rattle.text.specs.WordLaws.{get_d_any}
-use Rattle.text.specs.RunLaws.{run_stop, run_on, names_none, named_is, kept_length}
+-- Reading what is left gives what reading all gives, byte by byte.
+use Rattle.std.proofs.Common.{◌+◌, ◌-◌, sym, ap, ap₂, ◌∙◌, arith, map, length, drop, length-drop, take_all}
+use Rattle.std.proofs.lemmas.Result.{err_from_is_err_and}
+use Rattle.text.specs.Run.{run, placed, located}
+use Rattle.text.specs.RunLaws.{run_stop, run_on, run_end}
 use Rattle.text.proofs.scan.Goals as goal
 
-pub loop-at-init : goal.loop-at-init
-loop-at-init c =
-    let text = c.args.text.now in
-    (omega arith, ap₂ (λ x y. run x 0 y text) (sym (names_none text)) (sym c.blank_draft-d.ensures), refl)
-
-pub slice_bounds-take_byte-end : goal.slice_bounds-take_byte-end
-slice_bounds-take_byte-end c =
-    sym c.loop-at.invariant.2
-
-pub returns-then-e-ne0 : goal.returns-then-e-ne0
-returns-then-e-ne0 c =
-    let text = c.args.text.now in
+pub returns-in_err-next : goal.returns-in_err-next
+returns-in_err-next c =
     let l = c.loop-at in
-    let e = c.take_byte-e in
-    (l.invariant.1 ∙ run_stop (names_at text l.starts) l.p l.d text l.at (omega arith) e.result e.ensures (λ q. omega (arith, c.if-e-ne0)), l.invariant.0)
-
-pub slice_bounds-keep_name-end : goal.slice_bounds-keep_name-end
-slice_bounds-keep_name-end c =
-    sym c.loop-at.invariant.2
+    let text = c.args.text.now in
+    let rest = take_all (length text - l.at) (drop l.at text) (omega (arith, length-drop l.at text)) in
+    let p = err_from_is_err_and c.from_residual.result c.from_residual.ensures.1 in
+    rw (p.1, p.2)
+    (sym (ap (located text) l.invariant.1
+    ∙ run_stop (map (λ n. n.now) l.names) l.place l.d text l.at _ (omega arith) rest c.read_byte.result c.in_err-next.field-0.0 c.read_byte.ensures (sym c.placed_after.ensures ∙ c.in_err-next.was)))
 
 pub loop-at-preserved : goal.loop-at-preserved
 loop-at-preserved c =
-    let text = c.args.text.now in
     let l = c.loop-at in
-    let e = c.take_byte-e in
-    let alike : get_or text l.at 0 ≡ get_or text l.at 10 = get_d_any text l.at 0 10 (omega arith) in (
-      omega arith,
+    let text = c.args.text.now in
+    let rest = take_all (length text - l.at) (drop l.at text) (omega (arith, length-drop l.at text)) in (
+      l.invariant.0,
       l.invariant.1
-          ∙ run_on (names_at text l.starts) l.p l.d text l.at (omega arith) e.result e.ensures (omega (arith, c.if-e-ne0))
-          ∙ ap₂ (λ x y. run x y e.result (drop (l.at + 1) text))
-          (named_is text l.starts _ l.p l.d (get_or text l.at 10) l.at c.begins_word.result (c.begins_word.ensures ∙ ap (begins l.p) alike) c.keep_name.ensures)
-          (ap (place_after l.p) (sym alike) ∙ sym c.place_after-p.ensures),
-      ap length c.keep_name.ensures ∙ kept_length c.begins_word.result (eqb l.d.want 7) l.starts l.d.count l.at ∙ l.invariant.2,
+          ∙ run_on (map (λ n. n.now) l.names) l.place l.d text l.at _ (omega arith) rest c.read_byte.result c.in_ok-next.next c.read_byte.ensures (sym c.placed_after.ensures ∙ c.in_ok-next.was)
+          ∙ ap₂ (λ x y. run x y c.in_ok-next.next (drop (l.at + 1) text)) (sym c.keep_name.ensures) (sym c.after-place.ensures),
     )
 
 pub returns : goal.returns
-unfolding run
 returns c =
-    let text = c.args.text.now in
     let l = c.loop-at in
-    let empty : drop l.at text ≡ [] = drop_of_length-le text {i = l.at} (omega arith) in (
-      l.invariant.1 ∙ ap (run (names_at text l.starts) l.p l.d) empty
-          ∙ ap₂ (λ x y. record { draft = x; rest = y }) (sym (c.end_text-draft.ensures ∙ ap text_end c.end_line.ensures)) (sym empty),
-      l.invariant.0,
-    )
+    let text = c.args.text.now in
+    c.placed_after-2.ensures ∙ ap (placed text) c.end_text.ensures
+    ∙ sym (ap (located text) l.invariant.1 ∙ run_end (map (λ n. n.now) l.names) l.place l.d text l.at (omega arith))

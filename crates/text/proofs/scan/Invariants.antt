@@ -1,13 +1,9 @@
-use mathlib.Core.Path.{◌≡◌}
-use Prim.Native.Nat.{◌-◌, ◌≤◌}
-use lib.ListN.{length, drop}
+use Rattle.std.proofs.Common.{◌≡◌, ◌≤◌, drop, length, map}
+use Rattle.text.specs.declared.Place.TheVariants.{Between}
 use Rattle.text.specs.Grammar.{fresh}
 use Rattle.text.specs.Run.{run, nameless}
-use Rattle.text.specs.Conditions.{names_at}
 use Rattle.text.proofs.scan.Given as goal
 
+-- Reading what is left gives what reading all gives.
 abbrev pub invariant-loop-at : goal.invariant-loop-at
-invariant-loop-at l = (l.at ≤ length l.text) × (run nameless 0 fresh l.text ≡ run (names_at l.text l.starts) l.p l.d (drop l.at l.text)) × (length l.starts ≡ 16)
-
-abbrev pub decreases-loop-at : goal.decreases-loop-at
-decreases-loop-at l = length l.text - l.at
+invariant-loop-at l = (length l.text ≤ 16384) × (run nameless Between fresh l.text ≡ run (map (λ n. n.now) l.names) l.place l.d (drop l.at l.text))

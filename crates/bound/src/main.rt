@@ -17,9 +17,8 @@ fn print_bounds(out: &mut File, s: Sheet, quick: QuickSuite) -> fmt::Result {
     write!(out, "{tasks}")?;
     let chains = sheet::chain_count(s) as usize;
     for (&chain, figures) in s.chains.iter().zip(&quick.chains).take(chains) {
-        let line = ChainLine(chain);
-        let bound = figures.bound;
-        writeln!(out, "{line}bound {bound}")?;
+        write!(out, "{}", ChainLine(chain))?;
+        writeln!(out, "bound {}", figures.bound)?;
     }
     Ok(())
 }

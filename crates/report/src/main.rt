@@ -1,87 +1,65 @@
 // The report of one timing sheet, read from standard input: document 01's lines, those of a chain once for each, or the refusal.
 #![tactic(auto)]
 
-use answers::Verdict;
-use chain::Summary;
-use schedule::{Responses, Totals};
+use answers::Refusal;
+use chain::{Suite, Summary};
+use page::{ChainLine, File, TaskLines};
+use schedule::Totals;
 use sheet::Sheet;
-
-fn short(x: u8) -> u32 {
-    x as u32
-}
-
-fn print_signed(label: &[u8], n: i32) {
-    io::write_all(1, label);
-    if n < 0 {
-        io::write_all(1, b"-");
-    }
-    io::print_decimal(1, arith::magnitude(n));
-}
+use std::fmt;
+use std::fmt::Write;
 
 // "n, H, J, idle"
-fn print_totals(s: Sheet, t: Totals) {
-    page::print_number(b"tasks ", short(s.count));
-    page::print_number(b" hyperperiod ", t.hyperperiod);
-    page::print_number(b" jobs ", t.jobs);
-    page::print_number(b" idle ", t.idle);
-    io::write_all(1, b"\n");
+fn print_totals(out: &mut File, tasks: u8, totals: Totals) -> fmt::Result {
+    writeln!(
+        out,
+        "tasks {tasks} hyperperiod {} jobs {} idle {}",
+        totals.hyperperiod, totals.jobs, totals.idle
+    )
 }
 
 // "the worst figure and its smallest release; the bound", and the margin "under its limit"
-fn print_figures(worst: u32, release: u32, bound: u32, margin: i32) {
-    page::print_number(b"worst ", worst);
-    page::print_number(b" from ", release);
-    page::print_number(b"\nbound ", bound);
-    print_signed(b"\nmargin ", margin);
-    io::write_all(1, b"\n");
+fn print_figures(out: &mut File, figures: Summary) -> fmt::Result {
+    writeln!(
+        out,
+        "worst {} from {}",
+        figures.worst, figures.sampling.release
+    )?;
+    writeln!(out, "bound {}", figures.bound)?;
+    writeln!(out, "margin {}", figures.margin)
 }
 
 // "the report prints the chain lines once per chain"
-fn print_chains(s: Sheet, chains: [Summary; 8]) {
-    let mut k = 0u8;
-    while k < 8 {
-        let v = sheet::numbered(s, k + 1);
-        let Verdict::Fine = v else {
-            return;
-        };
-        let j = k as usize;
-        page::print_chain(s.chains[j]);
-        let summary = chains[j];
-        let sampling = summary.sampling;
-        print_figures(
-            summary.worst,
-            sampling.release,
-            summary.bound,
-            summary.margin,
-        );
-        k += 1;
+fn print_report(out: &mut File, s: Sheet, suite: Suite) -> fmt::Result {
+    print_totals(out, s.count, suite.totals)?;
+    let tasks = TaskLines {
+        count: s.count,
+        responses: suite.greatest,
+    };
+    write!(out, "{tasks}")?;
+    let chains = sheet::chain_count(s) as usize;
+    for (&chain, &figures) in s.chains.iter().zip(&suite.chains).take(chains) {
+        write!(out, "{}", ChainLine(chain))?;
+        print_figures(out, figures)?;
     }
+    Ok(())
 }
 
 // Everything is worked out before the first line is printed, so that a refusal stands alone.
-fn report(bytes: &[u8], table: &mut [u32]) {
-    let r = sheet::read(bytes);
-    let v = r.verdict;
-    let Verdict::Fine = v else {
-        return page::print_refusal(answers::refusal_of(v));
-    };
-    let s = r.sheet;
-    let f = chain::suite(s, table);
-    let answer = f.answer;
-    let Responses::Table(totals) = answer else {
-        return page::print_refusal(schedule::responses_refusal(answer));
-    };
-    print_totals(s, totals);
-    let greatest = f.greatest;
-    page::print_tasks(s, greatest);
-    let chains = f.chains;
-    print_chains(s, chains);
+fn report(bytes: &[u8], table: &mut [u32]) -> Result<(Sheet, Suite), Refusal> {
+    let s = sheet::read(bytes)?;
+    Ok((s, chain::suite(s, table)?))
 }
 
-// What lies past the 179th byte never changes the reader's answer, so a buffer of 4,096 serves inputs of any length.
+// What lies past the 179th byte never changes the reader's answer, so a buffer of 4,096 serves inputs of any length. Whether the output could
+// be written is for the launcher to see.
 fn main() {
     let mut input = io::buffer();
     let n = io::read_full(0, &mut input);
     let mut table = [0u32; 8192];
-    report(&input[..n], &mut table);
+    let mut out = File(1);
+    let _ = match report(&input[..n], &mut table) {
+        Ok((s, suite)) => print_report(&mut out, s, suite),
+        Err(refusal) => writeln!(out, "{refusal}"),
+    };
 }

@@ -1,13 +1,9 @@
--- From what the loop finds to what is answered.
-use mathlib.Core.Path.{◌≡◌, refl, sym, ap, ◌∙◌, subst}
-use mathlib.Core.Bool.{Bool, true, false, cond}
-use mathlib.Core.List.{List, ◌∷◌}
-use Prim.Native.Nat.{ℕ, zero, suc, ◌≤◌, ◌<◌}
-use native.Mathlib.Omega.{arith}
-use lib.Dec.{ltb}
-use lib.ListN.{length, take}
-use borrow.Author.Tests.{ltb-true, ltb-false, le-ltb}
+-- From what the pass finds to what is answered.
+use Rattle.std.proofs.Common.{◌≡◌, refl, sym, ap, ◌∙◌, subst, arith, List, ◌∷◌, Option, Some, None, ℕ, zero, suc, ◌≤◌, ◌<◌, Bool, true, false, cond, ltb, length, take, ltb-true, ltb-false, le-ltb}
 use Rattle.theory.specs.declared.Task.{Task}
+use Rattle.theory.specs.Model.Schedule.{period}
+use Rattle.theory.specs.Model.Responses.{Accepted}
+use Rattle.theory.specs.Model.Chain.{Chain}
 use Rattle.theory.proofs.Analysis.ChainLaws.{chain_head}
 use Rattle.bits.specs.Bits.{unpack}
 use Rattle.bits.specs.Laws.{number_lt}
@@ -16,22 +12,17 @@ use Rattle.sheet.specs.declared.Sheet.{Sheet}
 use Rattle.sheet.specs.Sound.{Sound}
 use Rattle.sheet.specs.Tasks.{tasks_of, chain_count, lacks, chain_of, first_of, rest_of}
 use Rattle.sheet.specs.TaskLaws.{tasks_length, chain_count_lem, chain_known}
-use Rattle.clocklog.specs.FormatLaws.{judged_recorded}
-use Rattle.night.specs.Calls.{chain_one}
-use Rattle.theory.specs.Model.Schedule.{period}
-use Rattle.theory.specs.Model.Responses.{Accepted}
-use Rattle.theory.specs.Model.Chain.{Chain}
 use Rattle.clocklog.specs.Events.{Event}
 use Rattle.clocklog.specs.Format.{count, record_at, records_from, records, log_judged}
-use Rattle.night.specs.declared.Found.{Found}
-use Rattle.night.specs.declared.answer.Break.{Break}
-use Rattle.night.specs.declared.answer.Break.TheVariants.{Nowhere, At}
+use Rattle.clocklog.specs.FormatLaws.{judged_recorded}
+use Rattle.night.specs.declared.state.Found.{Found}
 use Rattle.night.specs.Agreement.{before_break, Breaks, Replays}
+use Rattle.night.specs.Calls.{chain_one}
 use Rattle.night.specs.Pass.{fresh}
 use Rattle.night.specs.Exact.{taken_most}
 use Rattle.night.specs.Follow.{unread, followed, paths}
 use Rattle.night.specs.Results.{nowhere_breaks, record_breaks, pass_replays}
-use Rattle.night.specs.Conditions.{tasks_in, Sane, FoundIn, break_in}
+use Rattle.night.specs.Conditions.{Sane, FoundIn}
 
 records_length : (bytes : List ℕ) (r n : ℕ) → length (records_from bytes r n) ≡ n
 unfolding records_from
@@ -48,26 +39,26 @@ module _ {ts : List Task} (accepted : Accepted ts) (p : ℕ) (rest : List ℕ) (
   abbrev es : List Event
   es = records_from bytes 0 n
 
-  upto : (b : Break) → Breaks ts es b → records_from bytes 0 x.agreeing ≡ before_break es b → Replays ts p rest es x.paths x.longest b
+  upto : (b : Option ℕ) → Breaks ts es b → records_from bytes 0 f.agreeing ≡ before_break es b → Replays ts p rest es x.paths x.longest b
   upto b breaks e =
       pass_replays accepted p rest chain es x.paths x.longest b breaks
       (f.paths_are ∙ ap (λ es. paths rest (followed (period ts p) p rest es unread)) e)
       (f.longest_is ∙ ap (λ es. (followed (period ts p) p rest es unread).longest) e)
 
-  most : x.agreeing ≤ n
+  most : f.agreeing ≤ n
   most = omega (arith, f.agreeing_is, taken_most ts es fresh, records_length bytes 0 n)
 
-  pub found_replays : Replays ts p rest es x.paths x.longest (break_in x.agreeing n)
-  found_replays = go (ltb x.agreeing n) refl
+  pub found_replays : Replays ts p rest es x.paths x.longest x.breaking
+  found_replays = subst (Replays ts p rest es x.paths x.longest) (sym f.breaking_is) (go (ltb f.agreeing n) refl)
     where
-      go : (b : Bool) → ltb x.agreeing n ≡ b → Replays ts p rest es x.paths x.longest (cond b (At x.agreeing) Nowhere)
+      go : (b : Bool) → ltb f.agreeing n ≡ b → Replays ts p rest es x.paths x.longest (cond b (Some f.agreeing) None)
       go true e =
-          upto (At x.agreeing) (record_breaks accepted.proper es x.agreeing f.agreeing_is (omega (arith, ltb-true x.agreeing n e, records_length bytes 0 n)))
-          (records_take bytes 0 x.agreeing n most)
-      go false e = upto Nowhere (nowhere_breaks accepted.proper es (sym f.agreeing_is ∙ all ∙ sym (records_length bytes 0 n))) (ap (records_from bytes 0) all)
+          upto (Some f.agreeing) (record_breaks accepted.proper es f.agreeing f.agreeing_is (omega (arith, ltb-true f.agreeing n e, records_length bytes 0 n)))
+          (records_take bytes 0 f.agreeing n most)
+      go false e = upto None (nowhere_breaks accepted.proper es (sym f.agreeing_is ∙ all ∙ sym (records_length bytes 0 n))) (ap (records_from bytes 0) all)
         where
-          all : x.agreeing ≡ n
-          all = omega (arith, most, ltb-false x.agreeing n e)
+          all : f.agreeing ≡ n
+          all = omega (arith, most, ltb-false f.agreeing n e)
 
 -- ---- chain one of a sheet
 
@@ -82,15 +73,11 @@ module _ (s : Sheet) (sound : Sound s) where
   first_known = omega (arith, chain_head (tasks_of s) (first_of one) (rest_of one) (chain_known _ sound chain_one has_one), tasks_length _ sound)
 
   -- What is found is what is answered.
-  pub sheet_replays : Accepted (tasks_of s) → (bytes plan chain : List ℕ) (n : ℕ) (x : Found) → tasks_in plan s.count ≡ tasks_of s → chain ≡ one → n ≡ count bytes
-      → FoundIn (tasks_in plan s.count) (first_of chain) (rest_of chain) bytes n x → {b : Break} → b ≡ break_in x.agreeing n
-      → Replays (tasks_of s) (first_of one) (rest_of one) (records bytes) x.paths x.longest b
-  sheet_replays accepted bytes plan chain n x te ce ne f be =
-      subst (Replays (tasks_of s) (first_of one) (rest_of one) (records bytes) x.paths x.longest) (sym (be ∙ ap (break_in x.agreeing) ne))
-      (found_replays accepted (first_of one) (rest_of one) (chain_known _ sound chain_one has_one) bytes (count bytes) x
-      (subst (λ n. FoundIn (tasks_of s) (first_of one) (rest_of one) bytes n x) ne
-      (subst (λ c. FoundIn (tasks_of s) (first_of c) (rest_of c) bytes n x) ce
-      (subst (λ ts. FoundIn ts (first_of chain) (rest_of chain) bytes n x) te f))))
+  pub sheet_replays : Accepted (tasks_of s) → (bytes : List ℕ) (n : ℕ) (x : Found) → n ≡ count bytes
+      → FoundIn (tasks_of s) (first_of one) (rest_of one) bytes n x → Replays (tasks_of s) (first_of one) (rest_of one) (records bytes) x.paths x.longest x.breaking
+  sheet_replays accepted bytes n x ne f =
+      found_replays accepted (first_of one) (rest_of one) (chain_known _ sound chain_one has_one) bytes (count bytes) x
+      (subst (λ n. FoundIn (tasks_of s) (first_of one) (rest_of one) bytes n x) ne f)
 
 -- A log that is judged fine names tasks of the sheet, and keeps to the limit of time.
 pub log_sane : (bytes : List ℕ) (tasks n : ℕ) → log_judged bytes tasks ≡ fine → n ≡ count bytes → Sane bytes tasks n

@@ -1,13 +1,10 @@
 -- When records of starts and finishes agree with the tasks, and what is followed in them. Quotations are from document 02, P6.
-use Rattle.std.specs.Prelude.{◌≡◌, ◌⊎◌, ◌↔◌, List, [], ◌∷◌, ℕ, suc, ◌+◌, ◌*◌, ◌≤◌, ◌<◌, length, get_or, take}
+use Rattle.std.specs.Prelude.{◌≡◌, ◌⊎◌, ◌↔◌, List, [], ◌∷◌, ℕ, suc, ◌+◌, ◌*◌, ◌≤◌, ◌<◌, length, get_or, take, Option, Some, None}
 use Rattle.theory.specs.declared.Task.{Task}
 use Rattle.clocklog.specs.Events.{Event, start, finish}
 use Rattle.theory.specs.Model.Schedule.{release, Demands, Within, Run, Schedule, Starts, Finishes}
 use Rattle.theory.specs.Model.Chain.{PathEnds}
 use Rattle.night.specs.declared.answer.Longest.{Longest}
-use Rattle.night.specs.declared.answer.Longest.TheVariants.{Nothing, Delay}
-use Rattle.night.specs.declared.answer.Break.{Break}
-use Rattle.night.specs.declared.answer.Break.TheVariants.{Nowhere, At}
 
 -- Tick 0 is the origin, "where no job is in progress". "In tick order, a finish before a start on one tick": the place of an event in this order,
 -- which no two events of a run share (`Results.one_event`).
@@ -43,14 +40,14 @@ pub record Agrees (ts : List Task) (es : List Event) : Type 0 where
 -- ---- what is followed
 
 -- "Only those before it are followed": the records before the breaking one, all of them where none breaks.
-abbrev pub before_break : List Event → Break → List Event
-before_break es Nowhere = es
-before_break es (At r) = take r es
+abbrev pub before_break : List Event → Option ℕ → List Event
+before_break es None = es
+before_break es (Some r) = take r es
 
 -- "The breaking record is the first that, with all before it, does not agree."
-abbrev pub Breaks : List Task → List Event → Break → Type 0
-Breaks ts es Nowhere = Agrees ts es
-Breaks ts es (At r) = (r < length es) × Agrees ts (take r es) × ¬ (Agrees ts (take (suc r) es))
+abbrev pub Breaks : List Task → List Event → Option ℕ → Type 0
+Breaks ts es None = Agrees ts es
+Breaks ts es (Some r) = (r < length es) × Agrees ts (take r es) × ¬ (Agrees ts (take (suc r) es))
 
 -- The record is one of these.
 abbrev pub Logged : Event → List Event → Type 0
@@ -67,15 +64,15 @@ abbrev pub Completed : (ts : List Task) (p : ℕ) (rest : List ℕ) (es : List E
 Completed ts p rest es a k f = PathEnds a.demands a.run p rest k f × Logged (finish (place p rest (length rest)) f) es
 
 -- "the longest delay from release with its smallest job number, or none"
-abbrev pub IsLongest : (ts : List Task) (p : ℕ) (rest : List ℕ) (es : List Event) → Agrees ts es → Longest → Type 0
-IsLongest ts p rest es a Nothing = (k f : ℕ) → ¬ (Completed ts p rest es a k f)
-IsLongest ts p rest es a (Delay ticks job) =
-    Completed ts p rest es a job (release ts p job + ticks)
-    × ((k f : ℕ) → Completed ts p rest es a k f → (f ≤ release ts p k + ticks) × (f ≡ release ts p k + ticks → job ≤ k))
+abbrev pub IsLongest : (ts : List Task) (p : ℕ) (rest : List ℕ) (es : List Event) → Agrees ts es → Option Longest → Type 0
+IsLongest ts p rest es a None = (k f : ℕ) → ¬ (Completed ts p rest es a k f)
+IsLongest ts p rest es a (Some x) =
+    Completed ts p rest es a x.job (release ts p x.job + x.ticks)
+    × ((k f : ℕ) → Completed ts p rest es a k f → (f ≤ release ts p k + x.ticks) × (f ≡ release ts p k + x.ticks → x.job ≤ k))
 
 -- What is answered of the records es, for the tasks of a sheet and a chain: the break, and in every schedule that begins with the records before
 -- it the paths followed and the longest of them. Paths are completed in the order of their jobs, so `paths` of them are those of the first jobs.
-pub record Replays (ts : List Task) (p : ℕ) (rest : List ℕ) (es : List Event) (paths : ℕ) (longest : Longest) (breaking : Break) : Type 0 where
+pub record Replays (ts : List Task) (p : ℕ) (rest : List ℕ) (es : List Event) (paths : ℕ) (longest : Option Longest) (breaking : Option ℕ) : Type 0 where
   pub breaks : Breaks ts es breaking
   pub counts : (a : Agrees ts (before_break es breaking)) (k : ℕ) → (k < paths) ↔ ((f : ℕ) × Completed ts p rest (before_break es breaking) a k f)
   pub longest_is : (a : Agrees ts (before_break es breaking)) → IsLongest ts p rest (before_break es breaking) a longest

@@ -1,5 +1,5 @@
 -- P6 in the words of the call: what an answer of `replay` says. Quotations are from document 02, P6.
-use Rattle.std.specs.Prelude.{◌≡◌, ◌↔◌, List, ℕ, ◌+◌, ◌≤◌}
+use Rattle.std.specs.Prelude.{◌≡◌, ◌↔◌, List, ℕ, ◌+◌, ◌≤◌, Some, None}
 use Rattle.std.proofs.Common.{ap, ◌∙◌, subst, arith}
 use Rattle.theory.specs.Model.Schedule.{release}
 use Rattle.answers.specs.Answers.{given}
@@ -10,8 +10,7 @@ use Rattle.chain.specs.declared.answer.Summary.{Summary}
 use Rattle.chain.specs.CallLaws.{FiguresGiven, figures_given}
 use Rattle.clocklog.specs.Events.{Event}
 use Rattle.clocklog.specs.Format.{records}
-use Rattle.night.specs.declared.answer.Longest.TheVariants.{Delay}
-use Rattle.night.specs.declared.answer.Break.TheVariants.{Nowhere}
+use Rattle.night.specs.declared.answer.Longest.{Longest}
 use Rattle.night.specs.declared.answer.Replayed.{Replayed}
 use Rattle.night.specs.Agreement.{Agrees, before_break, Breaks, Completed, IsLongest}
 use Rattle.night.specs.Calls.{chain_one, figures_after, Answered}
@@ -39,10 +38,10 @@ module _ (s : Sheet) (bytes : List ℕ) (room : ℕ) (r : Replayed) (answer : Re
   taken = figures_given s chain_one room (given_when s bytes room answer.given_are).1
 
   -- "A break is named exactly when no such schedule exists."
-  pub agrees_named : (r.breaking ≡ Nowhere) ↔ Agrees (tasks_of s) (records bytes)
+  pub agrees_named : (r.breaking ≡ None) ↔ Agrees (tasks_of s) (records bytes)
   agrees_named = (
     λ e. subst (Breaks (tasks_of s) (records bytes)) e answer.answered.follows.breaks,
-    λ a. breaks_unique taken.taken.tasks.accepted.proper (records bytes) r.breaking Nowhere answer.answered.follows.breaks a,
+    λ a. breaks_unique taken.taken.tasks.accepted.proper (records bytes) r.breaking None answer.answered.follows.breaks a,
   )
 
   -- "No delay followed exceeds the sampling figure": that of the answer, for each path that is completed in a schedule which begins with the records followed,
@@ -55,8 +54,8 @@ module _ (s : Sheet) (bytes : List ℕ) (room : ℕ) (r : Replayed) (answer : Re
       )
 
   -- and so for the longest.
-  pub longest_within_figure : (ticks job : ℕ) → r.longest ≡ Delay ticks job → ticks ≤ r.figure.ticks
-  longest_within_figure ticks job e =
+  pub longest_within_figure : (x : Longest) → r.longest ≡ Some x → x.ticks ≤ r.figure.ticks
+  longest_within_figure x e =
       let a = before_agrees (records bytes) r.breaking answer.answered.follows.breaks in
       let longest = subst (IsLongest (tasks_of s) first rest before a) e (answer.answered.follows.longest_is a) in
-      omega (arith, no_path_exceeds a job (release (tasks_of s) first job + ticks) longest.0)
+      omega (arith, no_path_exceeds a x.job (release (tasks_of s) first x.job + x.ticks) longest.0)

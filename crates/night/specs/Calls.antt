@@ -1,8 +1,6 @@
 -- What the call answers. Quotations are from document 02, P6.
 use Rattle.std.specs.Prelude.{◌≡◌, List, ℕ, ltb}
-use Rattle.answers.specs.declared.Refusal.{Refusal}
-use Rattle.answers.specs.declared.Refusal.TheVariants.{Number}
-use Rattle.answers.specs.Answers.{Answer, given, refused, when, after, also, refusal}
+use Rattle.answers.specs.Answers.{Answer, given, refused, when, after, also}
 use Rattle.sheet.specs.declared.Sheet.{Sheet}
 use Rattle.sheet.specs.Tasks.{tasks_of, chain_of, first_of, rest_of}
 use Rattle.schedule.specs.Calls.{sizes_of}
@@ -10,8 +8,6 @@ use Rattle.chain.specs.declared.answer.Summary.{Summary}
 use Rattle.chain.specs.Calls.{figures_of}
 use Rattle.clocklog.specs.Format.{count, records, log_judged}
 use Rattle.night.specs.declared.answer.Replayed.{Replayed}
-use Rattle.night.specs.declared.answer.Replay.{Replay}
-use Rattle.night.specs.declared.answer.Replay.TheVariants.{Of, No}
 use Rattle.night.specs.Agreement.{Replays}
 
 -- "The replay follows chain one."
@@ -41,12 +37,3 @@ abbrev pub AnswersFor : Sheet → List ℕ → Answer Summary → Answer Replaye
 AnswersFor s bytes (given x) (given r) = Answered s bytes x r
 AnswersFor s bytes (given x) (refused number values) = ⊥
 AnswersFor s bytes (refused number values) a = a ≡ refused number values
-
--- The documents' answer for each case of the code's enum, and the refusal in it.
-abbrev pub told_replay : Replay → Answer Replayed
-told_replay (Of r) = given r
-told_replay (No r) = refusal r
-
-abbrev pub replay_refusal : Replay → Refusal
-replay_refusal (Of r) = Number 0
-replay_refusal (No r) = r

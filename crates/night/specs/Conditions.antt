@@ -1,71 +1,55 @@
--- What the functions ask of each other: the pass's state as the code holds it.
-use Rattle.std.specs.Prelude.{◌≡◌, cond, List, ℕ, ◌+◌, ◌*◌, ◌≤◌, ◌<◌, ltb, length, get_or}
-use Rattle.bits.specs.Bits.{list_of}
+-- What the functions ask of each other: the pass's state and the readings as the code holds them.
+use Rattle.std.specs.Prelude.{◌≡◌, cond, Bool, true, false, List, ℕ, ◌+◌, ◌≤◌, ◌<◌, ltb, length, get_or, Option, Some, None}
 use Rattle.theory.specs.declared.Task.{Task}
 use Rattle.theory.specs.Model.Schedule.{period, Slot, idle, busy}
-use Rattle.clocklog.specs.Format.{most_time, task, time_at, records_from}
-use Rattle.night.specs.declared.Found.{Found}
-use Rattle.night.specs.declared.Still.{Still}
-use Rattle.night.specs.declared.Still.TheVariants.{Breaks, Last}
-use Rattle.night.specs.declared.Went.{Went}
-use Rattle.night.specs.declared.Went.TheVariants.{Broken, On}
-use Rattle.night.specs.declared.answer.Longest.{Longest}
-use Rattle.night.specs.declared.answer.Break.{Break}
-use Rattle.night.specs.declared.answer.Break.TheVariants.{Nowhere, At}
+use Rattle.clocklog.specs.Events.{Event}
+use Rattle.clocklog.specs.Format.{most_time, task, kind_in, event, time_at, records_from}
+use Rattle.sheet.specs.Tasks.{first_of, rest_of}
+use Rattle.night.specs.declared.state.Record.{Record}
+use Rattle.night.specs.declared.state.Progress.{Progress}
+use Rattle.night.specs.declared.state.Place.{Place}
+use Rattle.night.specs.declared.state.State.{State as Held}
+use Rattle.night.specs.declared.state.Readings.{Readings as Places}
+use Rattle.night.specs.declared.state.Found.{Found}
 use Rattle.night.specs.Pass.{State, fresh, Step, broken, on, taken}
-use Rattle.night.specs.Follow.{Readings, unread, followed, paths}
+use Rattle.night.specs.Follow.{Readings, unread, stands, ready, followed, paths}
 
--- ---- the tasks
-
--- Of each task i three numbers, from place 3 · i on: its period, its budget and its rank.
-abbrev pub task_in : List ℕ → ℕ → Task
-task_in plan i = record { period = get_or plan (3 * i) 0; budget = get_or plan (3 * i + 1) 0; rank = get_or plan (3 * i + 2) 0 }
-
-unfoldable pub tasks_in : List ℕ → ℕ → List Task
-tasks_in plan count = list_of count (task_in plan)
-
-pub record Plan (plan : List ℕ) (count : ℕ) : Type 0 where
-  pub whole : length plan ≡ 48
-  pub few : count ≤ 16
-  pub budget_most : (i : ℕ) → i < count → get_or plan (3 * i + 1) 0 ≤ 100000
-
--- A number for each task.
-abbrev pub held : List ℕ → ℕ → ℕ
-held xs j = get_or xs j 0
-
--- Sixteen numbers that are those of f.
-pub record Whole (xs : List ℕ) (f : ℕ → ℕ) : Type 0 where
-  pub sixteen : length xs ≡ 16
-  pub holds : held xs ≡ f
+-- A record as the event that it records.
+abbrev pub event_of : Record → Event
+event_of r = event r.task (kind_in r.kind) r.at
 
 -- ---- the pass
 
--- A task, or 16 for none.
-abbrev pub slot : ℕ → Slot
-slot v = cond (ltb v 16) (busy v) idle
+-- A task, or none.
+abbrev pub slot : Option ℕ → Slot
+slot None = idle
+slot (Some i) = busy i
 
-abbrev pub known : ℕ → ℕ → Type 0
-known count v = v < 16 → v < count
+abbrev pub known : ℕ → Option ℕ → Type 0
+known count None = Unit {0}
+known count (Some i) = i < count
 
-abbrev pub state_of : ℕ → ℕ → List ℕ → List ℕ → State
-state_of tick last ended ran = record { tick = tick; last = slot last; ended = held ended; ran = held ran }
+abbrev pub begun : Progress
+begun = record { ended = 0; ran = 0 }
 
--- What a wait or a step leads to, with the lists that it leaves.
-abbrev pub still : Still → ℕ → List ℕ → List ℕ → Step
-still Breaks at ended ran = broken
-still (Last x) at ended ran = on (state_of at x ended ran)
+abbrev pub ended_in : List Progress → ℕ → ℕ
+ended_in jobs j = (get_or jobs j begun).ended
 
-abbrev pub still_known : ℕ → Still → Type 0
-still_known count Breaks = Unit {0}
-still_known count (Last x) = known count x
+abbrev pub ran_in : List Progress → ℕ → ℕ
+ran_in jobs j = (get_or jobs j begun).ran
 
-abbrev pub went : Went → List ℕ → List ℕ → Step
-went Broken ended ran = broken
-went (On tick last) ended ran = on (state_of tick last ended ran)
+-- m ticks more of the task can be counted.
+abbrev pub Room : (ℕ → ℕ) → ℕ → Option ℕ → Type 0
+Room ran m None = Unit {0}
+Room ran m (Some i) = ran i + m < 4294967296
 
-abbrev pub went_known : ℕ → Went → Type 0
-went_known count Broken = Unit {0}
-went_known count (On tick last) = known count last
+abbrev pub state_of : Held → State
+state_of s = record { tick = s.tick; last = slot s.last; ended = ended_in s.jobs; ran = ran_in s.jobs }
+
+-- What a wait or a record leads to: a break, or the state that is left.
+abbrev pub led : Bool → Held → Step
+led false s = broken
+led true s = on (state_of s)
 
 -- The first n records name tasks of the sheet, and their times are below the limit.
 pub record Sane (bytes : List ℕ) (tasks n : ℕ) : Type 0 where
@@ -80,15 +64,39 @@ pub record Chained (chain : List ℕ) : Type 0 where
   pub some : 0 < length chain
   pub most : length chain ≤ 16
 
-abbrev pub readings_of : List ℕ → List ℕ → Longest → Readings
-readings_of reads writes longest = record { reads = held reads; writes = held writes; longest = longest }
+abbrev pub unused : Place
+unused = record { read = 0; written = 0 }
 
--- What is found in the first n records: how many agree, and of these the paths and the longest.
-pub record FoundIn (ts : List Task) (p : ℕ) (rest : List ℕ) (bytes : List ℕ) (n : ℕ) (x : Found) : Type 0 where
-  pub agreeing_is : x.agreeing ≡ taken ts (records_from bytes 0 n) fresh
-  pub paths_are : x.paths ≡ paths rest (followed (period ts p) p rest (records_from bytes 0 x.agreeing) unread)
-  pub longest_is : x.longest ≡ (followed (period ts p) p rest (records_from bytes 0 x.agreeing) unread).longest
+abbrev pub read_in : List Place → ℕ → ℕ
+read_in places q = (get_or places q unused).read
+
+abbrev pub written_in : List Place → ℕ → ℕ
+written_in places q = (get_or places q unused).written
+
+abbrev pub readings_of : Places → Readings
+readings_of a = record { reads = read_in a.places; writes = written_in a.places; longest = a.longest }
+
+-- A job of the task has read at its place, and has written there.
+abbrev pub read_by : List ℕ → ℕ → Readings → Readings
+read_by chain task a =
+    record { reads = λ q. cond (stands (first_of chain) (rest_of chain) task q) (ready a.writes q) (a.reads q); writes = a.writes; longest = a.longest }
+
+abbrev pub written_by : List ℕ → ℕ → Readings → Readings
+written_by chain task a =
+    record { reads = a.reads; writes = λ q. cond (stands (first_of chain) (rest_of chain) task q) (a.reads q) (a.writes q); longest = a.longest }
+
+-- What is found where the records break there, or nowhere.
+abbrev pub found_by : List ℕ → Places → Option ℕ → Found
+found_by chain a breaking = record { breaking = breaking; paths = written_in a.places (length (rest_of chain)); longest = a.longest }
 
 -- The break where so many of n records agree.
-abbrev pub break_in : ℕ → ℕ → Break
-break_in agreeing n = cond (ltb agreeing n) (At agreeing) Nowhere
+abbrev pub break_in : ℕ → ℕ → Option ℕ
+break_in agreeing n = cond (ltb agreeing n) (Some agreeing) None
+
+-- What is found in the first n records: the break where they stop to agree, and of those before it the paths and the longest.
+pub record FoundIn (ts : List Task) (p : ℕ) (rest : List ℕ) (bytes : List ℕ) (n : ℕ) (x : Found) : Type 0 where
+  pub agreeing : ℕ
+  pub agreeing_is : agreeing ≡ taken ts (records_from bytes 0 n) fresh
+  pub breaking_is : x.breaking ≡ break_in agreeing n
+  pub paths_are : x.paths ≡ paths rest (followed (period ts p) p rest (records_from bytes 0 agreeing) unread)
+  pub longest_is : x.longest ≡ (followed (period ts p) p rest (records_from bytes 0 agreeing) unread).longest

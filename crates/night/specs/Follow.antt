@@ -1,14 +1,13 @@
 -- The paths that records hold, followed in one pass with state per place of the chain. Quotations are from document 02, P6.
-use Rattle.std.specs.Prelude.{List, [], ◌∷◌, Bool, cond, ◌&&◌, ℕ, zero, suc, ◌-◌, ◌*◌, leb, ltb, eqb, length}
+use Rattle.std.specs.Prelude.{List, [], ◌∷◌, Bool, cond, ◌&&◌, ℕ, zero, suc, ◌-◌, ◌*◌, leb, ltb, eqb, length, Option, Some, None}
 use Rattle.night.specs.declared.answer.Longest.{Longest}
-use Rattle.night.specs.declared.answer.Longest.TheVariants.{Nothing, Delay}
 use Rattle.clocklog.specs.Events.{Event, start, finish}
 use Rattle.night.specs.Agreement.{place}
 
 -- Another path, of a later job.
-abbrev pub longer : Longest → ℕ → ℕ → Longest
-longer Nothing delay job = Delay delay job
-longer (Delay most first) delay job = cond (ltb most delay) (Delay delay job) (Delay most first)
+abbrev pub longer : Option Longest → ℕ → ℕ → Option Longest
+longer None delay job = Some (record { ticks = delay; job = job })
+longer (Some most) delay job = cond (ltb most.ticks delay) (Some (record { ticks = delay; job = job })) (Some most)
 
 -- Task i stands at place q.
 abbrev pub stands : ℕ → List ℕ → ℕ → ℕ → Bool
@@ -19,10 +18,10 @@ stands p rest i q = leb q (length rest) && eqb (place p rest q) i
 pub record Readings : Type 0 where
   pub reads : ℕ → ℕ
   pub writes : ℕ → ℕ
-  pub longest : Longest
+  pub longest : Option Longest
 
 abbrev pub unread : Readings
-unread = record { reads = λ q. 0; writes = λ q. 0; longest = Nothing }
+unread = record { reads = λ q. 0; writes = λ q. 0; longest = None }
 
 -- Up to which reading a start at a place reads: a new one at the first place, at others all that wait there.
 abbrev pub ready : (ℕ → ℕ) → ℕ → ℕ
@@ -30,7 +29,7 @@ ready writes zero = suc (writes 0)
 ready writes (suc q) = writes q
 
 -- A finish at the last place ends the paths that are under way there; the first of them is the longest. T is the period of the first task.
-abbrev pub longest_after : ℕ → ℕ → List ℕ → Readings → ℕ → ℕ → Longest
+abbrev pub longest_after : ℕ → ℕ → List ℕ → Readings → ℕ → ℕ → Option Longest
 longest_after T p rest a i t =
     cond (stands p rest i (length rest) && ltb (a.writes (length rest)) (a.reads (length rest)))
     (longer a.longest (t - a.writes (length rest) * T) (a.writes (length rest)))

@@ -1,5 +1,5 @@
 -- The paths followed are those that the records hold, in every schedule that begins with them.
-use Rattle.std.specs.Prelude.{◌≡◌, refl, ◌↔◌, ◌≢◌, ◌⊎◌, Bool, true, false, ◌&&◌, ltb, drop}
+use Rattle.std.specs.Prelude.{◌≡◌, refl, ◌↔◌, ◌≢◌, ◌⊎◌, Bool, true, false, ◌&&◌, ltb, drop, Option, Some, None}
 use Rattle.std.proofs.Math.Path.{sym, ap, subst}
 use Rattle.std.proofs.Common.{◌∙◌, inr, mul-le-mul_right}
 use Rattle.std.proofs.Math.Logic.{inl}
@@ -21,7 +21,6 @@ use Rattle.theory.specs.Model.Chain.{Chain, HandOver, PathEnds}
 use Rattle.theory.proofs.Analysis.Paths.{path_unique, path_exists}
 use Rattle.clocklog.specs.Events.{Event, start, finish}
 use Rattle.night.specs.declared.answer.Longest.{Longest}
-use Rattle.night.specs.declared.answer.Longest.TheVariants.{Nothing, Delay}
 use Rattle.night.specs.Agreement.{Begins, Logged, place}
 use Rattle.night.specs.Pass.{State, fresh, from}
 use Rattle.night.specs.PassLaws.{busy_task, Fits, opening_least, opening_most}
@@ -33,11 +32,11 @@ pub same_bound : (a b : ℕ) → ((k : ℕ) → (k < a) ↔ (k < b)) → a ≡ b
 same_bound a b h = let no : ¬ (b < a) = λ l. omega (arith, (h b).0 l) in let on : ¬ (a < b) = λ l. omega (arith, (h a).1 l) in omega arith
 
 -- Of the paths of jobs 0 .. n - 1 the longest, with the smallest job that has it; there is none of no path.
-abbrev pub LongestOf : List Task → ℕ → List ℕ → Demands → Run → ℕ → Longest → Type 0
-LongestOf ts p rest d run n Nothing = n ≡ 0
-LongestOf ts p rest d run n (Delay most first) =
-    (first < n) × PathEnds d run p rest first (release ts p first + most)
-    × ((k f : ℕ) → k < n → PathEnds d run p rest k f → (f ≤ release ts p k + most) × (f ≡ release ts p k + most → first ≤ k))
+abbrev pub LongestOf : List Task → ℕ → List ℕ → Demands → Run → ℕ → Option Longest → Type 0
+LongestOf ts p rest d run n None = n ≡ 0
+LongestOf ts p rest d run n (Some x) =
+    (x.job < n) × PathEnds d run p rest x.job (release ts p x.job + x.ticks)
+    × ((k f : ℕ) → k < n → PathEnds d run p rest k f → (f ≤ release ts p k + x.ticks) × (f ≡ release ts p k + x.ticks → x.job ≤ k))
 
 finish_start : {i f j u : ℕ} → finish i f ≡ start j u → ⊥
 finish_start h = let z : ◌≡◌ {A = ℕ} 0 1 = cc in omega arith
@@ -240,7 +239,7 @@ module _ {ts : List Task} (ok : Accepted ts) (p : ℕ) (rest : List ℕ) (chain 
         now : (k f : ℕ) → n ≤ k → k < a.reads end → PathEnds d run p rest k f → f ≤ release ts p k + delay
         now k f l m y = omega (arith, whole, arrives_at k f l m y, mul-le-mul_right (period ts p) l)
 
-        newly : ((k f : ℕ) → k < n → PathEnds d run p rest k f → f < release ts p k + delay) → LongestOf ts p rest d run (a.reads end) (Delay delay n)
+        newly : ((k f : ℕ) → k < n → PathEnds d run p rest k f → f < release ts p k + delay) → LongestOf ts p rest d run (a.reads end) (Some (record { ticks = delay; job = n }))
         newly before = (some, subst (PathEnds d run p rest n) whole (arrives n (le_refl _) some), each)
           where
             each : (k f : ℕ) → k < a.reads end → PathEnds d run p rest k f → (f ≤ release ts p k + delay) × (f ≡ release ts p k + delay → n ≤ k)
@@ -250,20 +249,20 @@ module _ {ts : List Task} (ok : Accepted ts) (p : ℕ) (rest : List ℕ) (chain 
                 pick (yes l) = (omega (arith, before k f l y), λ e. absurd (omega (arith, before k f l y)))
                 pick (no l) = (now k f (omega arith) m y, λ e. omega arith)
 
-        go : (x : Longest) → LongestOf ts p rest d run (a.writes end) x → LongestOf ts p rest d run (a.reads end) (longer x (u - release ts p (a.writes end)) (a.writes end))
-        go Nothing h = newly (λ k f l y. absurd (omega (arith, h)))
-        go (Delay most first) h = pick (ltb most delay) refl
+        go : (x : Option Longest) → LongestOf ts p rest d run (a.writes end) x → LongestOf ts p rest d run (a.reads end) (longer x (u - release ts p (a.writes end)) (a.writes end))
+        go None h = newly (λ k f l y. absurd (omega (arith, h)))
+        go (Some x) h = pick (ltb x.ticks delay) refl
           where
-            pick : (b : Bool) → ltb most delay ≡ b → LongestOf ts p rest d run (a.reads end) (cond b (Delay delay n) (Delay most first))
-            pick true e = newly (λ k f l y. omega (arith, (h.2 k f l y).0, ltb-true most delay e))
+            pick : (b : Bool) → ltb x.ticks delay ≡ b → LongestOf ts p rest d run (a.reads end) (cond b (Some (record { ticks = delay; job = n })) (Some x))
+            pick true e = newly (λ k f l y. omega (arith, (h.2 k f l y).0, ltb-true x.ticks delay e))
             pick false e = (omega (arith, h.0, some), h.1, each)
               where
-                each : (k f : ℕ) → k < a.reads end → PathEnds d run p rest k f → (f ≤ release ts p k + most) × (f ≡ release ts p k + most → first ≤ k)
+                each : (k f : ℕ) → k < a.reads end → PathEnds d run p rest k f → (f ≤ release ts p k + x.ticks) × (f ≡ release ts p k + x.ticks → x.job ≤ k)
                 each k f m y = at_k (dec_lt k n)
                   where
-                    at_k : Dec (k < n) → (f ≤ release ts p k + most) × (f ≡ release ts p k + most → first ≤ k)
+                    at_k : Dec (k < n) → (f ≤ release ts p k + x.ticks) × (f ≡ release ts p k + x.ticks → x.job ≤ k)
                     at_k (yes l) = h.2 k f l y
-                    at_k (no l) = (omega (arith, now k f (omega arith) m y, ltb-false most delay e), λ z. omega (arith, h.0))
+                    at_k (no l) = (omega (arith, now k f (omega arith) m y, ltb-false x.ticks delay e), λ z. omega (arith, h.0))
 
   -- The longest after a finish, of the last task or of another.
   longest_kept : (s s' : State) (j u : ℕ) (a : Readings) → Finishing s s' j → Finishes d run j (s.ended j) u → Tracks s a

@@ -1,6 +1,6 @@
 -- P6 by the definitions: the pass names the break, its paths and its longest delay are those of every schedule that begins with the records
 -- before it, and what is answered is fixed. Quotations are from document 02, P6.
-use Rattle.std.specs.Prelude.{◌≡◌, refl, ◌↔◌, List, ℕ, suc, ◌+◌, ◌≤◌, ◌<◌, length, take}
+use Rattle.std.specs.Prelude.{◌≡◌, refl, ◌↔◌, List, ℕ, suc, ◌+◌, ◌≤◌, ◌<◌, length, take, Option, Some, None}
 use Rattle.std.proofs.Common.{sym, ap, ap₂, ◌∙◌, subst, arith}
 use Rattle.theory.specs.declared.Task.{Task}
 use Rattle.theory.specs.Model.Schedule.{period, release, Proper, Demands, Run}
@@ -10,9 +10,6 @@ use Rattle.theory.proofs.Analysis.Paths.{path_unique}
 use Rattle.theory.proofs.Results.Demand3.{no_schedule_exceeds}
 use Rattle.clocklog.specs.Events.{Event, start, finish}
 use Rattle.night.specs.declared.answer.Longest.{Longest}
-use Rattle.night.specs.declared.answer.Longest.TheVariants.{Nothing, Delay}
-use Rattle.night.specs.declared.answer.Break.{Break}
-use Rattle.night.specs.declared.answer.Break.TheVariants.{Nowhere, At}
 use Rattle.night.specs.Agreement.{instant, Happens, Agrees, before_break, Breaks, Completed, IsLongest, Replays}
 use Rattle.night.specs.Pass.{fresh, taken}
 use Rattle.night.specs.PassLaws.{busy_task}
@@ -46,28 +43,28 @@ break_named ts good es = (
 )
 
 module _ {ts : List Task} (good : Proper ts) (es : List Event) where
-  pub nowhere_breaks : taken ts es fresh ≡ length es → Breaks ts es Nowhere
+  pub nowhere_breaks : taken ts es fresh ≡ length es → Breaks ts es None
   nowhere_breaks e = (agrees_taken good es).1 e
 
-  pub record_breaks : (r : ℕ) → r ≡ taken ts es fresh → r < length es → Breaks ts es (At r)
+  pub record_breaks : (r : ℕ) → r ≡ taken ts es fresh → r < length es → Breaks ts es (Some r)
   record_breaks r e l = (l, (agrees_upto good es r (omega arith)).1 (omega arith), λ a. omega (arith, (agrees_upto good es (suc r) l).0 a))
 
   -- It is where the pass stops, and nowhere else.
-  at_taken : (r : ℕ) → Breaks ts es (At r) → r ≡ taken ts es fresh
+  at_taken : (r : ℕ) → Breaks ts es (Some r) → r ≡ taken ts es fresh
   at_taken r x =
       let l = x.0 in
       let low = (agrees_upto good es r (omega arith)).0 x.1 in
       let high : ¬ (suc r ≤ taken ts es fresh) = λ h. x.2 ((agrees_upto good es (suc r) l).1 h) in omega arith
 
-  pub breaks_unique : (b c : Break) → Breaks ts es b → Breaks ts es c → b ≡ c
-  breaks_unique Nowhere Nowhere x y = refl
-  breaks_unique Nowhere (At r) x y = absurd (omega (arith, (agrees_taken good es).0 x, at_taken r y, y.0))
-  breaks_unique (At r) Nowhere x y = absurd (omega (arith, (agrees_taken good es).0 y, at_taken r x, x.0))
-  breaks_unique (At r) (At q) x y = ap At (at_taken r x ∙ sym (at_taken q y))
+  pub breaks_unique : (b c : Option ℕ) → Breaks ts es b → Breaks ts es c → b ≡ c
+  breaks_unique None None x y = refl
+  breaks_unique None (Some r) x y = absurd (omega (arith, (agrees_taken good es).0 x, at_taken r y, y.0))
+  breaks_unique (Some r) None x y = absurd (omega (arith, (agrees_taken good es).0 y, at_taken r x, x.0))
+  breaks_unique (Some r) (Some q) x y = ap Some (at_taken r x ∙ sym (at_taken q y))
 
-pub before_agrees : {ts : List Task} (es : List Event) (b : Break) → Breaks ts es b → Agrees ts (before_break es b)
-before_agrees es Nowhere x = x
-before_agrees es (At r) x = x.1
+pub before_agrees : {ts : List Task} (es : List Event) (b : Option ℕ) → Breaks ts es b → Agrees ts (before_break es b)
+before_agrees es None x = x
+before_agrees es (Some r) x = x.1
 
 -- ---- the paths
 
@@ -75,7 +72,7 @@ module _ {ts : List Task} (accepted : Accepted ts) (p : ℕ) (rest : List ℕ) (
   abbrev count : ℕ
   count = paths rest (followed (period ts p) p rest es unread)
 
-  abbrev longest : Longest
+  abbrev longest : Option Longest
   longest = (followed (period ts p) p rest es unread).longest
 
   -- In every schedule that begins with the records a path is counted exactly if it "is completed in the log",
@@ -89,22 +86,22 @@ module _ {ts : List Task} (accepted : Accepted ts) (p : ℕ) (rest : List ℕ) (
   pub longest_followed : IsLongest ts p rest es a longest
   longest_followed = go longest (longest_logged accepted p rest chain a.schedule a.within es ((begins_one a.demands a.run es).0 a.begins))
     where
-      go : (x : Longest) → LongestOf ts p rest a.demands a.run count x → IsLongest ts p rest es a x
-      go Nothing h = λ k f y. omega (arith, h, (paths_followed k).1 (f, y))
-      go (Delay ticks job) h = (
-        found ((paths_followed job).0 h.0),
+      go : (x : Option Longest) → LongestOf ts p rest a.demands a.run count x → IsLongest ts p rest es a x
+      go None h = λ k f y. omega (arith, h, (paths_followed k).1 (f, y))
+      go (Some x) h = (
+        found ((paths_followed x.job).0 h.0),
         λ k f y. h.2 k f ((paths_followed k).1 (f, y)) y.0,
       )
         where
-          found : ((f : ℕ) × Completed ts p rest es a job f) → Completed ts p rest es a job (release ts p job + ticks)
-          found (f, y) = subst (Completed ts p rest es a job) (path_unique a.demands a.run p rest job f (release ts p job + ticks) y.0 h.1) y
+          found : ((f : ℕ) × Completed ts p rest es a x.job f) → Completed ts p rest es a x.job (release ts p x.job + x.ticks)
+          found (f, y) = subst (Completed ts p rest es a x.job) (path_unique a.demands a.run p rest x.job f (release ts p x.job + x.ticks) y.0 h.1) y
 
   -- "No delay followed exceeds the sampling figure."
   pub path_within_figure : (k f : ℕ) → Completed ts p rest es a k f → f ≤ release ts p k + sampling ts (response ts) p rest
   path_within_figure k f y = (no_schedule_exceeds ts accepted p rest chain a.demands a.within a.run a.schedule k).1 f y.0
 
 -- Together: what the pass finds up to the break is what is answered.
-pub pass_replays : {ts : List Task} → Accepted ts → (p : ℕ) (rest : List ℕ) → Chain ts p rest → (es : List Event) (n : ℕ) (x : Longest) (b : Break) → Breaks ts es b
+pub pass_replays : {ts : List Task} → Accepted ts → (p : ℕ) (rest : List ℕ) → Chain ts p rest → (es : List Event) (n : ℕ) (x : Option Longest) (b : Option ℕ) → Breaks ts es b
     → n ≡ paths rest (followed (period ts p) p rest (before_break es b) unread) → x ≡ (followed (period ts p) p rest (before_break es b) unread).longest
     → Replays ts p rest es n x b
 pass_replays {ts} accepted p rest chain es n x b breaks e q = record {
@@ -115,27 +112,28 @@ pass_replays {ts} accepted p rest chain es n x b breaks e q = record {
 
 -- ---- what is answered is fixed
 
-longest_unique : {ts : List Task} (p : ℕ) (rest : List ℕ) (es : List Event) (a : Agrees ts es) (x y : Longest) → IsLongest ts p rest es a x → IsLongest ts p rest es a y → x ≡ y
-longest_unique p rest es a Nothing Nothing h g = refl
-longest_unique {ts} p rest es a Nothing (Delay ticks job) h g = absurd (h job (release ts p job + ticks) g.0)
-longest_unique {ts} p rest es a (Delay ticks job) Nothing h g = absurd (g job (release ts p job + ticks) h.0)
-longest_unique {ts} p rest es a (Delay ticks job) (Delay more other) h g = ap₂ Delay same (omega (arith, there.1 (omega (arith, same)), here.1 (omega (arith, same))))
+longest_unique : {ts : List Task} (p : ℕ) (rest : List ℕ) (es : List Event) (a : Agrees ts es) (x y : Option Longest) → IsLongest ts p rest es a x → IsLongest ts p rest es a y → x ≡ y
+longest_unique p rest es a None None h g = refl
+longest_unique {ts} p rest es a None (Some y) h g = absurd (h y.job (release ts p y.job + y.ticks) g.0)
+longest_unique {ts} p rest es a (Some x) None h g = absurd (g x.job (release ts p x.job + x.ticks) h.0)
+longest_unique {ts} p rest es a (Some x) (Some y) h g =
+    ap₂ (λ (t j : ℕ). Some (record { ticks = t; job = j })) same (omega (arith, there.1 (omega (arith, same)), here.1 (omega (arith, same))))
   where
-    there : (release ts p other + more ≤ release ts p other + ticks) × (release ts p other + more ≡ release ts p other + ticks → job ≤ other)
-    there = h.1 other (release ts p other + more) g.0
+    there : (release ts p y.job + y.ticks ≤ release ts p y.job + x.ticks) × (release ts p y.job + y.ticks ≡ release ts p y.job + x.ticks → x.job ≤ y.job)
+    there = h.1 y.job (release ts p y.job + y.ticks) g.0
 
-    here : (release ts p job + ticks ≤ release ts p job + more) × (release ts p job + ticks ≡ release ts p job + more → other ≤ job)
-    here = g.1 job (release ts p job + ticks) h.0
+    here : (release ts p x.job + x.ticks ≤ release ts p x.job + y.ticks) × (release ts p x.job + x.ticks ≡ release ts p x.job + y.ticks → y.job ≤ x.job)
+    here = g.1 x.job (release ts p x.job + x.ticks) h.0
 
-    same : ticks ≡ more
+    same : x.ticks ≡ y.ticks
     same = omega (arith, there.0, here.0)
 
-pub record Same (n m : ℕ) (x y : Longest) (b c : Break) : Type 0 where
+pub record Same (n m : ℕ) (x y : Option Longest) (b c : Option ℕ) : Type 0 where
   pub paths : n ≡ m
   pub longest : x ≡ y
   pub breaking : b ≡ c
 
-pub replays_unique : {ts : List Task} → Proper ts → (p : ℕ) (rest : List ℕ) (es : List Event) (n m : ℕ) (x y : Longest) (b c : Break)
+pub replays_unique : {ts : List Task} → Proper ts → (p : ℕ) (rest : List ℕ) (es : List Event) (n m : ℕ) (x y : Option Longest) (b c : Option ℕ)
     → Replays ts p rest es n x b → Replays ts p rest es m y c → Same n m x y b c
 replays_unique {ts} good p rest es n m x y b c h g = record {
   paths = same_bound n m (λ k. (λ l. (now.counts a k).1 ((h.counts a k).0 l), λ l. (h.counts a k).1 ((now.counts a k).0 l)));

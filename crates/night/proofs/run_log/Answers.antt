@@ -1,80 +1,73 @@
 -- Each turn takes one record more, and follows it if it agrees: what is known is the state of the pass and the readings after the records so far.
-use Rattle.std.proofs.Common.{◌+◌, refl, sym, ap, ◌∙◌, arith}
-use Rattle.sheet.specs.Tasks.{first_of}
-use Rattle.night.specs.Conditions.{tasks_in}
-use Rattle.night.proofs.Laws.{period_at}
-use Rattle.night.proofs.Records.{going_start, going_time, going_ends, read_breaks, read_next}
-use Rattle.night.proofs.Readings.{tracked_start, tracked_next, found_in}
+use Rattle.std.proofs.Common.{◌+◌, refl, sym, ap, ◌∙◌, subst, arith}
+use Rattle.sheet.specs.Tasks.{first_of, rest_of}
+use Rattle.night.specs.Pass.{step}
+use Rattle.night.specs.Follow.{follow}
+use Rattle.night.specs.Conditions.{state_of, readings_of}
+use Rattle.night.proofs.Records.{Going, Tracked, going_start, going_time, recorded, going_breaks, going_next, going_ends, tracked_start, tracked_next, found_break, found_all}
 use Rattle.night.proofs.run_log.Goals as goal
 
-pub loop-r-init : goal.loop-r-init
-loop-r-init c =
-    let a = c.args in (
-      sym (period_at c.requires.plan_fits (first_of a.chain.now) c.requires.first_known),
-      going_start (tasks_in a.plan.now a.count) a.log.now a.n a.count,
-      tracked_start _ a.chain.now a.log.now,
-    )
+pub loop-k-init : goal.loop-k-init
+loop-k-init c =
+    let a = c.args in record {
+      period_is = refl;
+      going = subst (Going a.tasks.now a.log.now a.n 0 0) (sym c.fresh-state.ensures.0) (going_start a.tasks.now a.log.now a.n);
+      last_known = rw c.fresh-state.ensures.1 tt;
+      tracked = subst (Tracked _ a.chain.now a.log.now 0) (sym c.unread-readings.ensures) (tracked_start _ a.chain.now a.log.now);
+    }
 
 pub overflow_add-at : goal.overflow_add-at
 overflow_add-at c =
     let a = c.args in
-    let l = c.loop-r in
-    let time = going_time (tasks_in a.plan.now a.count) a.log.now a.n a.count l.tick l.last l.at l.r l.ended l.ran l.invariant.1 in
-    record { fits = omega (arith, c.entry-e.ensures.2, c.requires.sane_log.timed l.r c.loop-r-test.true, time) }
+    let l = c.loop-k in
+    record { fits = omega (arith, c.entry-entry.ensures.2, c.requires.sane_log.timed l.k c.loop-k-test.true, going_time a.tasks.now a.log.now a.n l.at l.k (state_of l.state) l.invariant.going) }
 
-pub step_on-w-requires-clause-state_known : goal.step_on-w-requires-clause-state_known
-step_on-w-requires-clause-state_known c =
+pub step-requires-clause-record_known : goal.step-requires-clause-record_known
+step-requires-clause-record_known c =
     let a = c.args in
-    let e = c.entry-e in
-    let l = c.loop-r in
-    let g = l.invariant.1 in
+    let l = c.loop-k in
+    let e = c.entry-entry in
     let sane = c.requires.sane_log in
-    let inside = c.loop-r-test.true in
-    let time = going_time (tasks_in a.plan.now a.count) a.log.now a.n a.count l.tick l.last l.at l.r l.ended l.ran g in (
-      g.ended_whole,
-      g.ran_whole,
-      g.last_known,
-      omega (arith, e.ensures.0, sane.named l.r inside),
-      omega (arith, e.ensures.2, sane.timed l.r inside, time),
-      omega (arith, g.few e.result.task, sane.few, inside),
+    let inside = c.loop-k-test.true in (
+      omega (arith, e.ensures.0, sane.named l.k inside),
+      omega (arith, e.ensures.2, sane.timed l.k inside, going_time a.tasks.now a.log.now a.n l.at l.k (state_of l.state) l.invariant.going),
+      omega (arith, l.invariant.going.few e.result.task, sane.few, inside),
     )
 
-pub returns-in_default : goal.returns-in_default
-returns-in_default c =
+pub returns-then-not-step : goal.returns-then-not-step
+returns-then-not-step c =
     let a = c.args in
-    let e = c.entry-e in
-    let l = c.loop-r in
-    let ts = tasks_in a.plan.now a.count in
-    found_in ts a.chain.now a.log.now a.n l.r l.r _ l.reads l.writes l.longest c.found_by.result l.invariant.2 l.invariant.0 refl
-    (read_breaks ts a.log.now a.n a.count l.tick l.last l.at l.r l.ended l.ran l.invariant.1 c.loop-r-test.true
-    e.result.task e.result.kind e.result.gap e.ensures.0 e.ensures.1 e.ensures.2 c.step_on-w.result _ _ c.step_on-w.ensures.ran_after c.in_default.is)
-    c.found_by.ensures
+    let l = c.loop-k in
+    let i = l.invariant in
+    let s = state_of l.state in
+    let same = recorded a.tasks.now a.log.now a.n l.at l.k s i.going c.entry-entry.result c.entry-entry.ensures in
+    found_break a.tasks.now a.chain.now a.log.now a.n l.k _ l.readings i.tracked i.period_is
+    (going_breaks a.tasks.now a.log.now a.n l.at l.k s i.going c.loop-k-test.true (c.if-not-step.ensures.state_after ∙ ap (step a.tasks.now s) same))
+    c.loop-k-test.true c.found.result c.found.ensures
 
-pub loop-r-preserved : goal.loop-r-preserved
-loop-r-preserved c =
+pub loop-k-preserved : goal.loop-k-preserved
+loop-k-preserved c =
     let a = c.args in
-    let e = c.entry-e in
-    let l = c.loop-r in
-    let w = c.step_on-w in
-    let x = c.follow_on-longest in
-    let ts = tasks_in a.plan.now a.count in
-    let time = going_time ts a.log.now a.n a.count l.tick l.last l.at l.r l.ended l.ran l.invariant.1 in (
-      l.invariant.0,
-      read_next ts a.log.now a.n a.count l.tick l.last l.at l.r l.ended l.ran l.invariant.1 c.loop-r-test.true
-          e.result.task e.result.kind e.result.gap e.ensures.0 e.ensures.1 e.ensures.2 w.result _ _ w.ensures.ran_after
-          _ _ c.in-On.is w.ensures.went_known,
-      tracked_next _ a.chain.now a.log.now l.r l.reads l.writes _ _ l.longest x.result
-          e.result.task e.result.kind l.at e.result.gap e.ensures.0 e.ensures.1 (ap (λ d. l.at + d) e.ensures.2 ∙ time)
-          l.invariant.2 x.ensures.result_after x.ensures.reads_len,
-    )
+    let l = c.loop-k in
+    let i = l.invariant in
+    let s = state_of l.state in
+    let e = c.entry-entry in
+    let same = recorded a.tasks.now a.log.now a.n l.at l.k s i.going e.result e.ensures in
+    record {
+      period_is = i.period_is;
+      going =
+          subst (λ d. Going a.tasks.now a.log.now a.n (l.at + d) (l.k + 1) (state_of c.step.new.self)) (sym e.ensures.2)
+          (going_next a.tasks.now a.log.now a.n l.at l.k s i.going c.loop-k-test.true (state_of c.step.new.self) (c.if-not-step.ensures.state_after ∙ ap (step a.tasks.now s) same));
+      last_known = c.step.ensures.last_known;
+      tracked =
+          tracked_next _ a.chain.now a.log.now l.k (readings_of l.readings) (readings_of c.follow.new.self) i.tracked
+          (c.follow.ensures ∙ ap (follow _ (first_of a.chain.now) (rest_of a.chain.now) (readings_of l.readings)) same);
+    }
 
 pub returns : goal.returns
 returns c =
     let a = c.args in
-    let l = c.loop-r in
-    let past = c.loop-r-test.false in
-    let ts = tasks_in a.plan.now a.count in
-    found_in ts a.chain.now a.log.now a.n a.n l.r _ l.reads l.writes l.longest c.found_by-2.result l.invariant.2 l.invariant.0
-    (omega (arith, l.invariant.1.within, past))
-    (going_ends ts a.log.now a.n a.count l.tick l.last l.at l.r l.ended l.ran l.invariant.1 past)
-    c.found_by-2.ensures
+    let l = c.loop-k in
+    let i = l.invariant in
+    let all = going_ends a.tasks.now a.log.now a.n l.at l.k (state_of l.state) i.going (omega (arith, c.loop-k-test.false)) in
+    found_all a.tasks.now a.chain.now a.log.now a.n l.k _ l.readings i.tracked i.period_is (omega (arith, all, c.loop-k-test.false)) (omega (arith, c.loop-k-test.false)) c.found-2.result c.found-2.ensures

@@ -1,14 +1,14 @@
-use Rattle.std.proofs.Common.{◌≡◌, ◌-◌}
+use Rattle.std.proofs.Common.{◌≡◌, length}
 use Rattle.theory.specs.Model.Schedule.{period}
 use Rattle.sheet.specs.Tasks.{first_of}
-use Rattle.night.specs.Conditions.{tasks_in}
-use Rattle.night.proofs.Records.{Going}
-use Rattle.night.proofs.Readings.{Tracked}
+use Rattle.night.specs.Conditions.{known, state_of, readings_of}
+use Rattle.night.proofs.Records.{Going, Tracked}
 use Rattle.night.proofs.run_log.Given as goal
 
-abbrev pub invariant-loop-r : goal.invariant-loop-r
-invariant-loop-r l =
-    (l.period ≡ period (tasks_in l.plan l.count) (first_of l.chain)) × Going (tasks_in l.plan l.count) l.log l.n l.count l.tick l.last l.at l.r l.ended l.ran × Tracked l.period l.chain l.log l.r l.reads l.writes l.longest
-
-abbrev pub decreases-loop-r : goal.decreases-loop-r
-decreases-loop-r l = l.n - l.r
+abbrev pub invariant-loop-k : goal.invariant-loop-k
+invariant-loop-k l = record {
+  period_is : l.period ≡ period l.tasks (first_of l.chain);
+  going : Going l.tasks l.log l.n l.at l.k (state_of l.state);
+  last_known : known (length l.tasks) l.state.last;
+  tracked : Tracked l.period l.chain l.log l.k (readings_of l.readings);
+}

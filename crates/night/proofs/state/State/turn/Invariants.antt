@@ -1,0 +1,10 @@
+use Rattle.std.proofs.Common.{◌≡◌, length}
+use Rattle.night.specs.Conditions.{slot, known, ended_in}
+use Rattle.night.proofs.Laws.{best_of}
+use Rattle.night.proofs.state.State.turn.Given as goal
+
+abbrev pub invariant-loop-i : goal.invariant-loop-i
+invariant-loop-i l = record {
+  is_greatest : slot l.best ≡ best_of l.tasks (ended_in l.self.jobs) l.at l.i;
+  best_known : known (length l.tasks) l.best;
+}

@@ -8,7 +8,7 @@ use lib.Seq.{length-take-le, drop-drop, take-append-add, take_at}
 use borrow.Rule.Slice.PartMut.{put_mid, post_of, drop_put, same_len_mid}
 use Rattle.theory.specs.declared.Task.{Task}
 use Rattle.std.specs.Prelude.{Option, Result}
-use Rattle.schedule.specs.declared.answer.Lowest.{Lowest}
+use Rattle.schedule.specs.declared.cycle.Lowest.{Lowest}
 use Rattle.schedule.specs.Calls.{rows}
 use Rattle.schedule.specs.Conditions.{RowFilled, FoundTo, Filled}
 use Rattle.schedule.proofs.Notes.{none_late_before}

@@ -3,6 +3,7 @@ pub mod Draining
 pub mod Releases
 -- Over a sheet's tasks: their list, their levels, what their rows tell, and the table.
 pub mod Tasks
+pub mod Gathered
 pub mod Backlogs
 pub mod Notes
 pub mod Entries

@@ -7,30 +7,20 @@ use native.Mathlib.Nat.{le_refl, le_trans}
 use native.Mathlib.Omega.{arith}
 use native.Mathlib.Decide.{ℕ_discrete}
 use lib.Dec.{ltb}
-use lib.ListN.{length, get_or}
+use lib.ListN.{length}
 use borrow.Author.Tests.{lt-ltb, le-ltb}
 use Rattle.theory.specs.declared.Task.{Task}
 use Rattle.arith.specs.RangeLaws.{sum_eq, below_suc}
-use Rattle.theory.specs.Model.Schedule.{none, rank, Slot, idle, busy}
+use Rattle.theory.specs.Model.Schedule.{rank, Slot, idle, busy}
 use Rattle.theory.specs.Model.Greatest.{outranking, greatest}
 use Rattle.theory.specs.Model.Responses.{full, hyperperiod, idle_ticks}
 use Rattle.theory.specs.Analysis.Backlog.{load}
 use Rattle.theory.proofs.Analysis.Existence.{full_schedule}
 use Rattle.theory.proofs.Analysis.Idle.{idle_backlog}
-use Rattle.sheet.specs.declared.Sheet.{Sheet}
-use Rattle.sheet.specs.Sound.{Sound}
-use Rattle.sheet.specs.Tasks.{tasks_of}
-use Rattle.sheet.specs.TaskLaws.{rank_at_lem}
 use Rattle.schedule.specs.Calls.{late_task, late_greatest}
 use Rattle.schedule.specs.Conditions.{rests_to, LowestTo, LateTo}
 
-module _ (s : Sheet) (ok : Sound s) (i : ℕ) (known : i < s.count) where
-  abbrev ts : List Task
-  ts = tasks_of s
-
-  abbrev rank_at : ℕ → ℕ
-  rank_at j = (get_or s.tasks j none).rank
-
+module _ (ts : List Task) (i : ℕ) where
   step_late : (x : Slot) → late_task ts i ≡ true → late_greatest ts i ≡ x → late_greatest ts (suc i) ≡ outranking (rank ts) i x
   unfolding greatest
   step_late x e q = ap₂ (λ b y. cond b (outranking (rank ts) i y) y) e q
@@ -44,18 +34,18 @@ module _ (s : Sheet) (ok : Sound s) (i : ℕ) (known : i < s.count) where
   late_first f e = record { is_greatest = step_late idle e f.none_late; known = omega arith }
 
   -- or one that outranks the late one so far,
-  pub late_greater : {w : ℕ} → LateTo ts i w → late_task ts i ≡ true → rank_at w < rank_at i → LateTo ts (suc i) i
+  pub late_greater : {w : ℕ} → LateTo ts i w → late_task ts i ≡ true → rank ts w < rank ts i → LateTo ts (suc i) i
   late_greater {w} f e l = record {
     is_greatest = step_late (busy w) e f.is_greatest
-        ∙ ap (λ b. cond b (busy i) (busy w)) (lt-ltb (rank ts w) (rank ts i) (omega (arith, rank_at_lem _ ok i known, rank_at_lem _ ok w (omega (arith, f.known)))));
+        ∙ ap (λ b. cond b (busy i) (busy w)) (lt-ltb (rank ts w) (rank ts i) l);
     known = omega arith;
   }
 
   -- or one that it outranks.
-  pub late_kept : {w : ℕ} → LateTo ts i w → late_task ts i ≡ true → rank_at i ≤ rank_at w → LateTo ts (suc i) w
+  pub late_kept : {w : ℕ} → LateTo ts i w → late_task ts i ≡ true → rank ts i ≤ rank ts w → LateTo ts (suc i) w
   late_kept {w} f e l = record {
     is_greatest = step_late (busy w) e f.is_greatest
-        ∙ ap (λ b. cond b (busy i) (busy w)) (le-ltb (rank ts w) (rank ts i) (omega (arith, rank_at_lem _ ok i known, rank_at_lem _ ok w (omega (arith, f.known)))));
+        ∙ ap (λ b. cond b (busy i) (busy w)) (le-ltb (rank ts w) (rank ts i) l);
     known = omega (arith, f.known);
   }
 
@@ -65,28 +55,25 @@ module _ (s : Sheet) (ok : Sound s) (i : ℕ) (known : i < s.count) where
 
   -- or of the lowest rank so far,
   pub on_time_lowest : {low before rests : ℕ} → LowestTo ts i low before → late_task ts i ≡ false → rests ≡ rests_to (load ts (full ts) i) (hyperperiod ts)
-      → rank_at i ≤ rank_at low → LowestTo ts (suc i) i rests
+      → rank ts i ≤ rank ts low → LowestTo ts (suc i) i rests
   on_time_lowest {low} f e r l = record {
     none_late = step_on_time idle e f.none_late;
     known = omega arith;
-    lowest = below_suc (λ j. rank ts i ≤ rank ts j) (λ j m. le_trans under (f.lowest j m)) (le_refl _);
+    lowest = below_suc (λ j. rank ts i ≤ rank ts j) (λ j m. le_trans l (f.lowest j m)) (le_refl _);
     rest = λ m. (omega arith, r);
   }
-    where
-      under : rank ts i ≤ rank ts low
-      under = omega (arith, rank_at_lem _ ok i known, rank_at_lem _ ok low (omega (arith, f.known)))
 
   -- or not.
-  pub on_time_kept : {low before : ℕ} → LowestTo ts i low before → late_task ts i ≡ false → rank_at low < rank_at i → LowestTo ts (suc i) low before
+  pub on_time_kept : {low before : ℕ} → LowestTo ts i low before → late_task ts i ≡ false → rank ts low < rank ts i → LowestTo ts (suc i) low before
   on_time_kept {low} f e l = record {
     none_late = step_on_time idle e f.none_late;
     known = omega (arith, f.known);
-    lowest = below_suc (λ j. rank ts low ≤ rank ts j) f.lowest (omega (arith, rank_at_lem _ ok i known, rank_at_lem _ ok low (omega (arith, f.known))));
+    lowest = below_suc (λ j. rank ts low ≤ rank ts j) f.lowest (omega arith);
     rest = λ m. let x = f.rest (some (ℕ_discrete i 0)) in (omega (arith, x.0), x.1);
   }
     where
       some : Dec (i ≡ 0) → 0 < i
-      some (yes z) = absurd (omega (arith, ap rank_at same))
+      some (yes z) = absurd (omega (arith, ap (rank ts) same))
         where
           same : low ≡ i
           same = omega (arith, f.known)

@@ -1,164 +1,209 @@
 -- Releases of a level: when the next ones come, and the work they bring.
 use mathlib.Core.Path.{◌≡◌, refl, sym, ap, ap₂, ◌∙◌, subst}
 use mathlib.Core.Logic.{◌≢◌}
-use mathlib.Core.List.{List}
+use mathlib.Core.List.{List, [], ◌∷◌}
 use Prim.Native.Nat.{ℕ, suc, ◌+◌, ◌*◌, ◌%◌, ◌≤◌, ◌<◌, ◌∣◌}
-use native.Mathlib.Nat.{le_refl, dvd-add, dvd_refl, dvd-zero, dvd-mul_left, mod-eq-zero_of_dvd, dvd_of_mod-eq-zero}
-use native.Mathlib.Numerals.{add-one}
+use native.Mathlib.Nat.{le_refl, dvd-add, dvd_refl, dvd-mul_left, mod-eq-zero_of_dvd, dvd_of_mod-eq-zero}
 use native.Mathlib.Omega.{arith}
-use lib.ListN.{length, get_or, set, replicate, length-set, get_or-replicate}
+use lib.ListN.{length, set, take, length-set}
 use lib.Seq.{get_or-set_same, get_or-set_other}
 use borrow.Author.Count.{below_more}
 use borrow.Author.Tests.{eq-eqb, ne_eqb}
-use Rattle.arith.specs.Whole.{up}
+use Rattle.std.proofs.Math.Seq.{take-length}
+use Rattle.std.proofs.lemmas.List.Sums.{sum_by-cons, sum_by-set, sum_by_more, sum_by_more_le}
 use Rattle.arith.specs.WholeLaws.{up_divides, up_above, up_near, up_least, up_is, up_fixed}
-use Rattle.theory.specs.declared.Task.{Task}
-use Rattle.arith.specs.Ranges.{sum}
-use Rattle.arith.specs.RangeLaws.{sum_zero, sum_grows}
+use Rattle.theory.specs.Model.Schedule.{none}
 use Rattle.theory.specs.Analysis.Backlog.{drain}
-use Rattle.schedule.specs.declared.answer.Turn.{Turn}
-use Rattle.schedule.specs.Conditions.{brings, Places, placed, coming, NextAt, Turned}
+use Rattle.schedule.specs.declared.level.Place.{Place}
+use Rattle.schedule.specs.declared.walk.Next.{Next}
+use Rattle.schedule.specs.Conditions.{brings, place_of, place_at, placed, coming, DueAt, AllDueAt, Starts, Turned}
 use Rattle.schedule.proofs.Draining.{Gap}
 
--- One task
+-- One place
 
--- From work that is done by `before`: after the releases of tick t its next one is at x, and the work with what it brings is done by `clear`.
-pub record Moved (T C t before x clear : ℕ) : Type 0 where
-  pub next : x ≡ up T (suc t)
-  pub brought : clear ≡ before + brings t T C
+-- From work that is done by `before`: after the releases of tick t it is `more`, and the work with what it brings is done by `clear`.
+pub record Moved (t : ℕ) (place : Place) (before : ℕ) (more : Place) (clear : ℕ) : Type 0 where
+  pub after : DueAt (suc t) more
+  pub same_period : more.period ≡ place.period
+  pub same_budget : more.budget ≡ place.budget
+  pub brought : clear ≡ before + brings t place.period place.budget
 
-module _ {T t x : ℕ} (positive : 0 < T) (first : x ≡ up T t) where
-  -- Its release x is now: it brings the budget, and the next one comes a period later.
-  pub moved_now : {C before y clear : ℕ} → x ≡ t → y ≡ t + T → clear ≡ before + C → Moved T C t before y clear
-  moved_now {C} {before} now y c = record {
-    next = y ∙ sym (up_is T (dvd-add T here (dvd_refl T)) (omega arith) (omega arith));
-    brought = rw (eq-eqb (t % T) 0 (mod-eq-zero_of_dvd T here)) c;
-  }
+module _ {t : ℕ} {place : Place} (due : DueAt t place) where
+  -- Its release is now: it brings the budget, and the next one comes a period later.
+  pub moved_now : {before clear : ℕ} {more : Place} → place.next ≡ t → more ≡ record place { next = place.next + place.period } → clear ≡ before + place.budget → Moved t place before more clear
+  moved_now {before} {clear} {more} now e c = subst (λ x. Moved t place before x clear) (sym e) (record {
+    after = record {
+      period_positive = due.period_positive;
+      period_most = due.period_most;
+      next_is = ap (λ n. n + place.period) now ∙ sym (up_is place.period (dvd-add place.period here (dvd_refl place.period)) (omega (arith, due.period_positive)) (omega arith));
+    };
+    same_period = refl;
+    same_budget = refl;
+    brought = rw (eq-eqb (t % place.period) 0 (mod-eq-zero_of_dvd place.period here)) c;
+  })
     where
-      here : T ∣ t
-      here = subst (λ z. T ∣ z) (sym first ∙ now) (up_divides T t)
+      here : place.period ∣ t
+      here = subst (λ z. place.period ∣ z) (sym due.next_is ∙ now) (up_divides place.period t)
 
   -- It is not: nothing comes, and it is still the next one.
-  pub moved_later : {C before y clear : ℕ} → x ≢ t → y ≡ x → clear ≡ before → Moved T C t before y clear
-  moved_later {C} {before} later y c = record {
-    next = y ∙ first ∙ sym (up_is T (up_divides T t) (omega (arith, first, later, up_above T t positive)) (omega (arith, up_near T t positive)));
-    brought = rw (ne_eqb (t % T) 0 (λ e. later (first ∙ up_fixed T (dvd_of_mod-eq-zero T e)))) (omega (arith, c));
-  }
+  pub moved_later : {before clear : ℕ} {more : Place} → place.next ≢ t → more ≡ place → clear ≡ before → Moved t place before more clear
+  moved_later {before} {clear} {more} later e c = subst (λ x. Moved t place before x clear) (sym e) (record {
+    after = record {
+      period_positive = due.period_positive;
+      period_most = due.period_most;
+      next_is = due.next_is ∙ sym (up_is place.period (up_divides place.period t) (omega (arith, due.next_is, later, up_above place.period t due.period_positive)) (omega (arith, up_near place.period t due.period_positive)));
+    };
+    same_period = refl;
+    same_budget = refl;
+    brought = rw (ne_eqb (t % place.period) 0 (λ z. later (due.next_is ∙ up_fixed place.period (dvd_of_mod-eq-zero place.period z)))) (omega (arith, c));
+  })
 
--- Before its next release at or after tick t
-module _ (T t : ℕ) (positive : 0 < T) where
-  -- nothing comes,
-  before_brings : (C u : ℕ) → t ≤ u → u < up T t → brings u T C ≡ 0
-  before_brings C u l m = rw (ne_eqb (u % T) 0 (λ e. omega (arith, up_least T {x = t} (dvd_of_mod-eq-zero T e) l)))
+  -- Before its next release nothing comes,
+  pub before_brings : (u : ℕ) → t ≤ u → u < place.next → brings u place.period place.budget ≡ 0
+  before_brings u l m = rw (ne_eqb (u % place.period) 0 (λ e. omega (arith, due.next_is, up_least place.period {x = t} (dvd_of_mod-eq-zero place.period e) l)))
 
   -- and it stays the next one.
-  before_next : (e : ℕ) → t ≤ e → e ≤ up T t → up T t ≡ up T e
-  before_next e l m = sym (up_is T (up_divides T t) m (omega (arith, up_near T t positive)))
+  pub due_still : {e : ℕ} → t ≤ e → e ≤ place.next → DueAt e place
+  due_still {e} l m = record {
+    period_positive = due.period_positive;
+    period_most = due.period_most;
+    next_is = due.next_is ∙ sym (up_is place.period (up_divides place.period t) (omega (arith, due.next_is)) (omega (arith, up_near place.period t due.period_positive)));
+  }
+
+-- Places
+
+-- Where none brings anything, they bring nothing.
+placed_none : (places : List Place) (u : ℕ) → ((p : ℕ) → p < length places → brings u (place_at places p).period (place_at places p).budget ≡ 0) → placed places u ≡ 0
+unfolding placed
+placed_none [] u f = refl
+placed_none (x ∷ xs) u f = omega (arith, sum_by-cons (λ (y : Place). brings u y.period y.budget) x xs, f 0 (omega arith), placed_none xs u (λ p l. f (suc p) (omega arith)))
+
+-- A place that brings the same as before.
+placed_set : (places : List Place) (p : ℕ) (more : Place) (u : ℕ) → p < length places → more.period ≡ (place_at places p).period → more.budget ≡ (place_at places p).budget
+    → placed (set places p more) u ≡ placed places u
+unfolding placed
+placed_set places p more u l e f = omega (arith, sum_by-set (λ (y : Place). brings u y.period y.budget) places p more (place_of none) l, ap₂ (brings u) e f)
 
 -- The whole level
 
-module _ {own : Task} {periods budgets : List ℕ} {size : ℕ} (places : Places periods budgets size) (positive : 0 < own.period) where
-  -- At tick 0 every task has a release.
-  pub next_start : NextAt own periods (replicate 16 0) size 0 0
-  next_start = record {
-    whole = refl;
-    own_at = sym (up_fixed own.period (dvd-zero _));
-    place_at = λ p l. get_or-replicate 16 p 0 0 (omega (arith, places.few)) ∙ sym (up_fixed (get_or periods p 0) (dvd-zero _));
+module _ {own : Place} {others : List Place} {t clear : ℕ} {own' : Place} {others' : List Place} {next : Next} (x : Turned own others t clear own' others' next) where
+  -- After the releases of tick t nothing comes until the next ones,
+  pub turned_gap : {a : ℕ → ℕ} {h : ℕ} (n : ℕ) → ((u : ℕ) → coming own others u ≡ a u) → t < h → n * own.period ≡ h → clear ≡ t + drain a t → Gap a t next.soon h next.clear
+  unfolding coming
+  turned_gap {a} {h} n same l ends e = record {
+    later = x.later;
+    within = omega (arith, x.before_own, x.own_after.next_is, x.same_period, up_least own'.period {x = suc t} (subst (λ y. own'.period ∣ y) (ap (λ y. n * y) x.same_period ∙ ends) (dvd-mul_left own'.period n)) l);
+    quiet = λ u k m. sym (same u) ∙ sym (x.same u) ∙ ap₂ ◌+◌ (before_brings x.own_after u k (omega (arith, x.before_own)))
+        (placed_none others' u (λ p q. before_brings (x.others_after p q) u k (omega (arith, x.before_others p q))));
+    clears = x.clear_is ∙ ap₂ ◌+◌ e (same t);
   }
 
-  module _ {next : List ℕ} {t clear : ℕ} {turn : Turn} (x : Turned own periods budgets next size t clear turn) where
-    before_own : turn.soon ≤ up own.period (suc t)
-    before_own = omega (arith, x.before_own, x.next_after.own_at)
+  -- and there these are still the next ones.
+  pub own_next : DueAt next.soon own'
+  own_next = due_still x.own_after x.later x.before_own
 
-    before_place : (p : ℕ) → p < size → turn.soon ≤ up (get_or periods p 0) (suc t)
-    before_place p q = omega (arith, x.before_places p q, x.next_after.place_at p q)
-
-    -- After the releases of tick t nothing comes until the next ones,
-    pub turned_gap : {h : ℕ} (n : ℕ) → t < h → n * own.period ≡ h → clear ≡ t + drain (coming own periods budgets size) t
-        → Gap (coming own periods budgets size) t turn.soon h turn.clear
-    unfolding coming placed
-    turned_gap {h} n l ends e = record {
-      later = x.later;
-      within = omega (arith, before_own, up_least own.period {x = suc t} (subst (λ y. own.period ∣ y) ends (dvd-mul_left own.period n)) l);
-      quiet = λ u l m. ap₂ ◌+◌ (before_brings own.period (suc t) positive own.budget u l (omega (arith, before_own)))
-          (sum_zero size _ (λ p q. before_brings (get_or periods p 0) (suc t) (places.period_positive p q) (get_or budgets p 0) u l (omega (arith, before_place p q))));
-      clears = x.clear_is ∙ ap (λ y. y + coming own periods budgets size t) e;
-    }
-
-    -- and there these are still the next ones.
-    pub turned_next : NextAt own periods next size turn.soon turn.due
-    turned_next = record {
-      whole = x.next_after.whole;
-      own_at = x.next_after.own_at ∙ before_next own.period (suc t) positive turn.soon x.later before_own;
-      place_at = λ p q. x.next_after.place_at p q ∙ before_next (get_or periods p 0) (suc t) (places.period_positive p q) turn.soon x.later (before_place p q);
-    }
+  pub others_next : AllDueAt next.soon others'
+  others_next p q = due_still (x.others_after p q) x.later (x.before_others p q)
 
 -- The releases of tick t, place by place
 
 -- After the first p places, from work that was done by `before` and a next release at `due`.
-pub record TurnedTo (periods budgets next : List ℕ) (size t due before clear soon p : ℕ) : Type 0 where
-  pub few : p ≤ size
-  pub whole : length next ≡ 16
-  pub place_after : (q : ℕ) → q < p → get_or next q 0 ≡ up (get_or periods q 0) (suc t)
-  pub place_at : (q : ℕ) → p ≤ q → q < size → get_or next q 0 ≡ up (get_or periods q 0) t
-  pub clear_is : clear ≡ before + placed periods budgets p t
+pub record TurnedTo (others now : List Place) (t due before clear soon p : ℕ) : Type 0 where
+  pub few : p ≤ length others
+  pub whole : length now ≡ length others
+  pub after : (q : ℕ) → q < p → DueAt (suc t) (place_at now q)
+  pub rest : (q : ℕ) → p ≤ q → place_at now q ≡ place_at others q
+  pub same : (u : ℕ) → placed now u ≡ placed others u
+  pub clear_is : clear ≡ before + placed (take p others) t
   pub later : t < soon
   pub before_due : soon ≤ due
-  pub before_places : (q : ℕ) → q < p → soon ≤ get_or next q 0
+  pub before_places : (q : ℕ) → q < p → soon ≤ (place_at now q).next
 
-pub turn_start : {own : Task} {periods budgets next : List ℕ} {size t due due' clear : ℕ} → NextAt own periods next size t due → t < due'
-    → TurnedTo periods budgets next size t due' clear clear due' 0
-unfolding placed sum
-turn_start n l = record {
+pub turn_start : {others : List Place} {t due clear : ℕ} → t < due → TurnedTo others others t due clear clear due 0
+unfolding placed
+turn_start l = record {
   few = omega arith;
-  whole = n.whole;
-  place_after = λ q l. absurd (omega arith);
-  place_at = λ q l m. n.place_at q m;
+  whole = refl;
+  after = λ q l. absurd (omega arith);
+  rest = λ q l. refl;
+  same = λ u. refl;
   clear_is = omega arith;
   later = l;
   before_due = le_refl _;
   before_places = λ q l. absurd (omega arith);
 }
 
-module _ {periods budgets next : List ℕ} {size t due before clear soon p : ℕ} (places : Places periods budgets size) (s : TurnedTo periods budgets next size t due before clear soon p) (known : p < size) where
-  abbrev T : ℕ
-  T = get_or periods p 0
+module _ {others now : List Place} {t due before clear soon p : ℕ} (all : AllDueAt t others) (s : TurnedTo others now t due before clear soon p) (known : p < length others) where
+  pub place_now : place_at now p ≡ place_at others p
+  place_now = s.rest p (le_refl p)
 
-  place_now : get_or next p 0 ≡ up T t
-  place_now = s.place_at p (le_refl p) known
+  pub due_now : DueAt t (place_at now p)
+  due_now = subst (DueAt t) (sym place_now) (all p known)
 
-  placed_more : {x clear' : ℕ} → Moved T (get_or budgets p 0) t clear x clear' → clear' ≡ before + placed periods budgets (p + 1) t
-  unfolding placed sum
-  placed_more m = rw add-one (omega (arith, s.clear_is, m.brought))
+  placed_more : {more : Place} {clear' : ℕ} → Moved t (place_at now p) clear more clear' → clear' ≡ before + placed (take (p + 1) others) t
+  unfolding placed
+  placed_more m = omega (arith, s.clear_is, m.brought, ap (λ (y : Place). brings t y.period y.budget) place_now, sum_by_more (λ (y : Place). brings t y.period y.budget) others p (place_of none) known)
 
-  pub placed_fits : get_or next p 0 ≡ t → clear + get_or budgets p 0 ≤ before + placed periods budgets size t
+  pub placed_fits : (place_at now p).next ≡ t → clear + (place_at now p).budget ≤ before + placed others t
   unfolding placed
   placed_fits e = omega (
     arith,
-    placed_more (moved_now (places.period_positive p known) place_now e refl refl),
-    sum_grows (λ q. brings t (get_or periods q 0) (get_or budgets q 0)) (p + 1) size (omega arith),
+    s.clear_is,
+    (moved_now due_now {before = 0} {clear = (place_at now p).budget} e refl (omega arith)).brought,
+    ap (λ (y : Place). brings t y.period y.budget) place_now,
+    sum_by_more_le (λ (y : Place). brings t y.period y.budget) others p (place_of none) known,
   )
 
-  -- One place more: x is its next release after the tick, and y the earliest so far.
-  module _ {next' : List ℕ} {clear' x y : ℕ} (m : Moved T (get_or budgets p 0) t clear x clear') (less : y ≤ soon) (least : y ≤ x) (either : t < x → t < y) where
-    turned_place : length next' ≡ 16 → get_or next' p 0 ≡ x → ((q : ℕ) → q ≢ p → get_or next' q 0 ≡ get_or next q 0) → TurnedTo periods budgets next' size t due before clear' y (p + 1)
-    turned_place whole here others = record {
+  -- One place more: `more` is the place after the tick, and y the earliest release so far.
+  module _ {now' : List Place} {more : Place} {clear' y : ℕ} (m : Moved t (place_at now p) clear more clear') (less : y ≤ soon) (least : y ≤ more.next) (either : t < more.next → t < y) where
+    pub turned_now : now' ≡ set now p more → TurnedTo others now' t due before clear' y (p + 1)
+    turned_now n = record {
       few = omega arith;
-      whole = whole;
-      place_after = below_more (λ q. get_or next' q 0 ≡ up (get_or periods q 0) (suc t)) p (λ q l. others q (λ z. omega arith) ∙ s.place_after q l) (here ∙ m.next);
-      place_at = λ q l m. others q (λ z. omega arith) ∙ s.place_at q (omega arith) m;
+      whole = ap length n ∙ length-set now p more ∙ s.whole;
+      after = below_more (λ q. DueAt (suc t) (place_at now' q)) p (λ q l. subst (DueAt (suc t)) (sym (elsewhere q (λ z. omega arith))) (s.after q l)) (subst (DueAt (suc t)) (sym here) m.after);
+      rest = λ q l. elsewhere q (λ z. omega arith) ∙ s.rest q (omega arith);
+      same = λ u. ap (λ xs. placed xs u) n ∙ placed_set now p more u l m.same_period m.same_budget ∙ s.same u;
       clear_is = placed_more m;
-      later = either (omega (arith, m.next, up_above T (suc t) (places.period_positive p known)));
+      later = either (omega (arith, m.after.next_is, up_above more.period (suc t) m.after.period_positive));
       before_due = omega (arith, s.before_due);
-      before_places = below_more (λ q. y ≤ get_or next' q 0) p (λ q l. omega (arith, others q (λ z. omega arith), s.before_places q l)) (omega (arith, here));
+      before_places = below_more (λ q. y ≤ (place_at now' q).next) p
+          (λ q l. omega (arith, ap (λ (z : Place). z.next) (elsewhere q (λ z. omega arith)), s.before_places q l)) (omega (arith, ap (λ (z : Place). z.next) here));
     }
+      where
+        l : p < length now
+        l = omega (arith, s.whole)
 
-    -- It is written down where it has changed.
-    pub turned_now : next' ≡ set next p x → TurnedTo periods budgets next' size t due before clear' y (p + 1)
-    turned_now n =
-        turned_place (ap length n ∙ length-set next p x ∙ s.whole)
-        (ap (λ xs. get_or xs p 0) n ∙ get_or-set_same next p x 0 (omega (arith, s.whole, places.few)))
-        (λ q z. ap (λ xs. get_or xs q 0) n ∙ get_or-set_other next p q x 0 z)
+        here : place_at now' p ≡ more
+        here = ap (λ xs. place_at xs p) n ∙ get_or-set_same now p more (place_of none) l
 
-    pub turned_later : next' ≡ next → x ≡ get_or next p 0 → TurnedTo periods budgets next' size t due before clear' y (p + 1)
-    turned_later n is = turned_place (ap length n ∙ s.whole) (ap (λ xs. get_or xs p 0) n ∙ sym is) (λ q z. ap (λ xs. get_or xs q 0) n)
+        elsewhere : (q : ℕ) → q ≢ p → place_at now' q ≡ place_at now q
+        elsewhere q z = ap (λ xs. place_at xs q) n ∙ get_or-set_other now p q more (place_of none) z
+
+-- After all of them, and the own place that has moved.
+pub turned : {own : Place} {others : List Place} {t clear moved : ℕ} {own' : Place} {others' : List Place} {next : Next} → Moved t own clear own' moved
+    → TurnedTo others others' t own'.next moved next.clear next.soon (length others) → Turned own others t clear own' others' next
+unfolding coming
+turned {own} {others} {t} {next = next} m s = record {
+  own_after = m.after;
+  others_after = λ p l. s.after p (omega (arith, s.whole));
+  same_period = m.same_period;
+  same = λ u. ap₂ ◌+◌ (ap₂ (brings u) m.same_period m.same_budget) (s.same u);
+  clear_is = omega (arith, s.clear_is, m.brought, ap (λ xs. placed xs t) (take-length others));
+  later = s.later;
+  before_own = s.before_due;
+  before_others = λ p l. s.before_places p (omega (arith, s.whole));
+}
+
+-- The level at tick t of a walk that started at `first`: the next releases, and the work that comes in as from the start.
+pub record Walking (first : Place) (places : List Place) (t : ℕ) (own : Place) (others : List Place) : Type 0 where
+  pub own_due : DueAt t own
+  pub others_due : AllDueAt t others
+  pub same_period : own.period ≡ first.period
+  pub same : (u : ℕ) → coming own others u ≡ coming first places u
+
+pub walk_start : {own : Place} {others : List Place} → Starts own others → Walking own others 0 own others
+walk_start s = record { own_due = s.own_due; others_due = s.others_due; same_period = refl; same = λ u. refl }
+
+pub walk_on : {first : Place} {places : List Place} {t clear : ℕ} {own : Place} {others : List Place} {own' : Place} {others' : List Place} {next : Next}
+    → Walking first places t own others → Turned own others t clear own' others' next → Walking first places next.soon own' others'
+walk_on w x = record { own_due = own_next x; others_due = others_next x; same_period = x.same_period ∙ w.same_period; same = λ u. x.same u ∙ w.same u }

@@ -13,7 +13,7 @@ use Rattle.sheet.specs.Calls.{judge_of}
 use Rattle.sheet.specs.Tasks.{tasks_of}
 use Rattle.schedule.specs.declared.answer.Totals.{Totals}
 use Rattle.schedule.specs.declared.answer.Size.{Size}
-use Rattle.schedule.specs.Calls.{most_ticks, most_jobs, late_greatest, sizes_of, responses_of, task_responses_of, table_after, greatest_after, with_greatest}
+use Rattle.schedule.specs.Calls.{most_ticks, most_jobs, late_greatest, sizes_of, responses_of, filled_of, task_responses_of, table_after, greatest_after, with_greatest}
 
 -- H and J
 
@@ -64,6 +64,10 @@ unfolding responses_of
 responses_refused s room r e = rw e
 
 module _ (s : Sheet) (room : ℕ) {size : Size} (fits : sizes_of s ≡ given size) where
+  pub responses_filled : responses_of s room ≡ filled_of (tasks_of s) room size
+  unfolding responses_of
+  responses_filled = rw fits
+
   pub responses_small : room < size.jobs → responses_of s room ≡ refused 14 []
   unfolding responses_of
   responses_small l = rw (fits, lt-ltb room size.jobs l)

@@ -42,13 +42,16 @@ sizes_of s =
     (also (when (ltb most_jobs (all_jobs (tasks_of s))) 11)
     (given (record { hyperperiod = hyperperiod (tasks_of s); jobs = all_jobs (tasks_of s) }))))
 
--- Then "14, 15": the answer for a table of `room` entries.
-unfoldable pub responses_of : Sheet → ℕ → Answer Totals
-responses_of s room =
-    after (sizes_of s) λ size.
+-- Then "14, 15": the answer for a table of `room` entries, for tasks of such H and J,
+abbrev pub filled_of : List Task → ℕ → Size → Answer Totals
+filled_of ts room size =
     also (when (ltb room size.jobs) 14)
-    (also (lateness (late_greatest (tasks_of s) (length (tasks_of s))))
-    (given (record { hyperperiod = size.hyperperiod; jobs = size.jobs; idle = idle_ticks (tasks_of s) })))
+    (also (lateness (late_greatest ts (length ts)))
+    (given (record { hyperperiod = size.hyperperiod; jobs = size.jobs; idle = idle_ticks ts })))
+
+-- and for a sheet.
+unfoldable pub responses_of : Sheet → ℕ → Answer Totals
+responses_of s room = after (sizes_of s) (filled_of (tasks_of s) room)
 
 -- A row is a task's responses, "each task's jobs in release order": "H/T entries".
 abbrev pub row : List Task → ℕ → List ℕ

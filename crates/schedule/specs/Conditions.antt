@@ -1,23 +1,22 @@
 -- What the functions under the call promise each other.
-use Rattle.std.specs.Prelude.{◌≡◌, List, true, false, cond, ℕ, suc, ◌+◌, ◌-◌, ◌*◌, ◌%◌, ◌≤◌, ◌<◌, eqb, length, get_or, take, drop, Option, Some, None, Result, Ok, Err}
+use Rattle.std.specs.Prelude.{◌≡◌, ◌⊎◌, List, [], ◌∷◌, ◌++◌, true, false, cond, ℕ, suc, ◌+◌, ◌-◌, ◌*◌, ◌%◌, ◌≤◌, ◌<◌, eqb, ltb, length, get_or, take, drop, sum_by, Option, Some, None, Result, Ok, Err}
+use Rattle.std.proofs.Math.ListN.{set}
 use Rattle.arith.specs.Whole.{up}
 use Rattle.theory.specs.declared.Task.{Task}
 use Rattle.arith.specs.Ranges.{sum}
-use Rattle.theory.specs.Model.Schedule.{period, budget, rank, idle, busy}
+use Rattle.theory.specs.Model.Schedule.{none, period, budget, rank, idle, busy}
 use Rattle.theory.specs.Model.Responses.{full, hyperperiod}
-use Rattle.theory.specs.Analysis.Level.{level}
 use Rattle.theory.specs.Analysis.Backlog.{load, drain}
 use Rattle.theory.specs.Analysis.Finish.{FirstZero}
-use Rattle.sheet.specs.declared.Sheet.{Sheet}
-use Rattle.sheet.specs.Tasks.{tasks_of}
-use Rattle.schedule.specs.declared.answer.Turn.{Turn}
-use Rattle.schedule.specs.declared.answer.Lowest.{Lowest}
-use Rattle.schedule.specs.Calls.{most_ticks, late_task, late_greatest, row, rows}
-
--- h is the hyperperiod, within document 01's limit.
-pub record Period (s : Sheet) (h : ℕ) : Type 0 where
-  pub is_hyperperiod : h ≡ hyperperiod (tasks_of s)
-  pub within_limit : h ≤ most_ticks
+use Rattle.answers.specs.declared.Refusal.{Refusal}
+use Rattle.answers.specs.Answers.{told}
+use Rattle.schedule.specs.declared.answer.Size.{Size}
+use Rattle.schedule.specs.declared.answer.Totals.{Totals}
+use Rattle.schedule.specs.declared.cycle.Lowest.{Lowest}
+use Rattle.schedule.specs.declared.level.Level.{Level}
+use Rattle.schedule.specs.declared.level.Place.{Place}
+use Rattle.schedule.specs.declared.walk.Next.{Next}
+use Rattle.schedule.specs.Calls.{most_ticks, late_task, late_greatest, filled_of, row, rows, table_after}
 
 -- ---- work that comes in
 
@@ -25,65 +24,80 @@ pub record Period (s : Sheet) (h : ℕ) : Type 0 where
 abbrev pub brings : ℕ → ℕ → ℕ → ℕ
 brings t T C = cond (eqb (t % T) 0) C 0
 
--- Tasks in so many places, by period and budget.
-pub record Places (periods budgets : List ℕ) (size : ℕ) : Type 0 where
-  pub few : size ≤ 16
-  pub periods_whole : length periods ≡ 16
-  pub budgets_whole : length budgets ≡ 16
-  pub period_positive : (p : ℕ) → p < size → 0 < get_or periods p 0
-  pub period_most : (p : ℕ) → p < size → get_or periods p 0 ≤ 100000
+-- A place for one task, before its first release.
+abbrev pub place_of : Task → Place
+place_of task = record { period = task.period; budget = task.budget; next = 0 }
 
--- What they bring at tick t.
-unfoldable pub placed : List ℕ → List ℕ → ℕ → ℕ → ℕ
-placed periods budgets size t = sum size (λ p. brings t (get_or periods p 0) (get_or budgets p 0))
+abbrev pub place_at : List Place → ℕ → Place
+place_at places p = get_or places p (place_of none)
 
--- What a level brings at tick t: its own task, whose row is walked, and those in the places.
-unfoldable pub coming : Task → List ℕ → List ℕ → ℕ → ℕ → ℕ
+-- The places of a level that are taken.
+abbrev pub taken : Level → List Place
+taken level = take level.size level.places
+
+-- A sum over places, of a number of their periods and budgets.
+abbrev pub over : (ℕ → ℕ → ℕ) → List Place → ℕ
+over f places = sum_by (λ (place : Place). f place.period place.budget) places
+
+-- What they bring at tick t,
+unfoldable pub placed : List Place → ℕ → ℕ
+placed places t = over (brings t) places
+
+-- and a level, which is a row's own task and those in the places.
+unfoldable pub coming : Place → List Place → ℕ → ℕ
 unfolding placed
-coming own periods budgets size t = brings t own.period own.budget + placed periods budgets size t
+coming own others t = brings t own.period own.budget + placed others t
 
--- The place that holds a period is found, or there is none.
-pub record PlaceOf (periods : List ℕ) (size T p : ℕ) : Type 0 where
-  pub within : p ≤ size
-  pub holds : p < size → get_or periods p 0 ≡ T
+-- A place whose next release is its first at or after tick t.
+pub record DueAt (t : ℕ) (place : Place) : Type 0 where
+  pub period_positive : 0 < place.period
+  pub period_most : place.period ≤ 100000
+  pub next_is : place.next ≡ up place.period t
+
+abbrev pub AllDueAt : ℕ → List Place → Type 0
+AllDueAt t places = (p : ℕ) → p < length places → DueAt t (place_at places p)
+
+-- Places with a task more: in that of its period, or in one of its own.
+abbrev pub Adds : List Place → Task → List Place → Type 0
+Adds places task more =
+    ((p : ℕ) × (p < length places) × ((place_at places p).period ≡ task.period) × (more ≡ set places p (record (place_at places p) { budget = (place_at places p).budget + task.budget })))
+    ⊎ (more ≡ places ++ place_of task ∷ [])
 
 -- A number of a task that budgets of one period add up to.
 abbrev pub Additive : (ℕ → ℕ → ℕ) → Type 0
 Additive f = (T a b : ℕ) → f T (a + b) ≡ f T a + f T b
 
--- The places hold the tasks that outrank task i, in any order and those of one period together: a sum over these and task i is the
--- sum over the level.
-pub record Level (ts : List Task) (i : ℕ) (periods budgets : List ℕ) (size : ℕ) : Type 0 where
-  pub places : Places periods budgets size
-  pub sums : (f : ℕ → ℕ → ℕ) → Additive f
-      → f (period ts i) (budget ts i) + sum size (λ p. f (get_or periods p 0) (get_or budgets p 0)) ≡ level ts i (λ j. f (period ts j) (budget ts j))
+-- The places hold the tasks that outrank a rank, in any order and those of one period together: a sum over these is one over the tasks.
+pub record Above (ts : List Task) (r : ℕ) (places : List Place) : Type 0 where
+  pub due : AllDueAt 0 places
+  pub sums : (f : ℕ → ℕ → ℕ) → Additive f → over f places ≡ sum (length ts) (λ j. cond (ltb r (rank ts j)) (f (period ts j) (budget ts j)) 0)
 
--- The first releases at or after tick t: the own task's at `due`, and each place's.
-pub record NextAt (own : Task) (periods next : List ℕ) (size t due : ℕ) : Type 0 where
-  pub whole : length next ≡ 16
-  pub own_at : due ≡ up own.period t
-  pub place_at : (p : ℕ) → p < size → get_or next p 0 ≡ up (get_or periods p 0) t
+-- A walk starts before the first release of the row's own task and of each place.
+pub record Starts (own : Place) (others : List Place) : Type 0 where
+  pub own_due : DueAt 0 own
+  pub others_due : AllDueAt 0 others
 
 -- All work that a walk meets is done by this tick: it ends by tick 1,000,000, and sixteen tasks have at most 1,100,000 due each.
 abbrev pub most_clear : ℕ
 most_clear = 20000000
 
--- The level before the releases of tick t, with work that is done by tick `clear`.
-pub record Ready (own : Task) (periods budgets next : List ℕ) (size t due clear : ℕ) : Type 0 where
-  pub places : Places periods budgets size
-  pub own_positive : 0 < own.period
-  pub own_most : own.period ≤ 100000
-  pub next_at : NextAt own periods next size t due
-  pub fits : clear + coming own periods budgets size t ≤ most_clear
+-- A level before the releases of tick t, with work that is done by tick `clear`.
+pub record Ready (own : Place) (others : List Place) (t clear : ℕ) : Type 0 where
+  pub own_due : DueAt t own
+  pub others_due : AllDueAt t others
+  pub fits : clear + coming own others t ≤ most_clear
   pub short : t ≤ most_ticks
 
--- And after them: by when the work is done with what they bring, and the next tick with releases.
-pub record Turned (own : Task) (periods budgets next : List ℕ) (size t clear : ℕ) (turn : Turn) : Type 0 where
-  pub next_after : NextAt own periods next size (suc t) turn.due
-  pub clear_is : turn.clear ≡ clear + coming own periods budgets size t
-  pub later : t < turn.soon
-  pub before_own : turn.soon ≤ turn.due
-  pub before_places : (p : ℕ) → p < size → turn.soon ≤ get_or next p 0
+-- And after them: by when the work is done with what they bring, and the next tick with releases. The work that comes in is as before.
+pub record Turned (own : Place) (others : List Place) (t clear : ℕ) (own' : Place) (others' : List Place) (next : Next) : Type 0 where
+  pub own_after : DueAt (suc t) own'
+  pub others_after : AllDueAt (suc t) others'
+  pub same_period : own'.period ≡ own.period
+  pub same : (u : ℕ) → coming own' others' u ≡ coming own others u
+  pub clear_is : next.clear ≡ clear + coming own others t
+  pub later : t < next.soon
+  pub before_own : next.soon ≤ own'.next
+  pub before_others : (p : ℕ) → p < length others' → next.soon ≤ (place_at others' p).next
 
 -- ---- a row, for a x of work that comes in at tick x and jobs released at the multiples of T
 
@@ -146,3 +160,7 @@ pub record Filled (ts : List Task) (n end : ℕ) (old table : List ℕ) (found :
   pub same_length : length table ≡ length old
   pub untouched : drop end table ≡ drop end old
   pub filled : late_greatest ts n ≡ idle → take end table ≡ rows ts n
+
+-- The answer and the table, for tasks of such H and J.
+abbrev pub FilledAs : List Task → Size → List ℕ → Result Totals Refusal → List ℕ → Type 0
+FilledAs ts size old r table = (told r ≡ filled_of ts (length old) size) × (table ≡ table_after (filled_of ts (length old) size) ts old)

@@ -11,4 +11,5 @@ pub mod RowLaws
 pub mod Results
 pub mod Unique
 -- What the functions under the calls require and ensure.
+pub mod Tasks
 pub mod Conditions

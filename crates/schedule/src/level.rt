@@ -1,0 +1,91 @@
+// The tasks that outrank one, in places: those of one period are released together, so they take one.
+ghost use Rattle.std.specs.Prelude.{◌≤◌, length};
+
+use theory::Task;
+
+// Tasks of one period: what a release of them brings, and when the next one is.
+#[derive(Clone, Copy, Default)]
+pub(crate) struct Place {
+    pub(crate) period: u32,
+    pub(crate) budget: u32,
+    pub(crate) next: u32,
+}
+
+// The first release of a task is at tick 0.
+impl From<Task> for Place {
+    ghost use Rattle.std.specs.Prelude.{◌≡◌};
+    ghost use Rattle.schedule.specs.Conditions.{place_of};
+
+    ghost from_gives = { λ task place. place ≡ place_of task };
+
+    fn from(task: Task) -> Place {
+        Place {
+            period: task.period,
+            budget: task.budget,
+            next: 0,
+        }
+    }
+}
+
+impl Place {
+    ghost use Rattle.std.specs.Prelude.{◌≡◌, ◌+◌, ◌^◌, ◌<◌};
+
+    // Its release is now: what that brings. The next one comes a period later.
+    pub(crate) fn release(&mut self) -> u32
+        requires { self.old.next + self.old.period < 2 ^ 32 }
+        ensures brings { result ≡ self.old.budget }
+        ensures moves { self.new ≡ record self.old { next = self.old.next + self.old.period } }
+    {
+        self.next += self.period;
+        self.budget
+    }
+}
+
+// The first `size` of sixteen places.
+#[derive(Drop)]
+pub(crate) struct Level {
+    pub(crate) places: [Place; 16],
+    pub(crate) size: usize,
+    ghost few: { size ≤ length places },
+}
+
+impl Level {
+    ghost use Rattle.std.specs.Prelude.{◌+◌, ◌<◌, ◌^◌, ℕ};
+    ghost use Rattle.schedule.specs.Tasks.{Fine};
+    ghost use Rattle.schedule.specs.Conditions.{place_at, taken, Adds, Above};
+
+    // The tasks of a list that outrank a rank.
+    pub(crate) fn above(tasks: &[Task], rank: u8) -> Level
+        requires { Fine tasks.now }
+        ensures { Above tasks.now rank (taken result) }
+    {
+        let mut level = Level {
+            places: [Place::default(); 16],
+            size: 0,
+        };
+        for task in tasks {
+            if rank < task.rank {
+                level.add(*task);
+            }
+        }
+        level
+    }
+
+    // A task more, in the place of its period or in one of its own.
+    fn add(&mut self, task: Task)
+        requires room { self.old.size < 16 }
+        requires fits { (p : ℕ) → p < self.old.size → (place_at self.old.places p).budget + task.budget < 2 ^ 32 }
+        ensures { Adds (taken self.old) task (taken self.new) }
+    {
+        let own = self.places[..self.size]
+            .iter()
+            .position(|place| place.period == task.period);
+        match own {
+            Some(p) => self.places[p].budget += task.budget,
+            None => {
+                self.places[self.size] = Place::from(task);
+                self.size += 1;
+            }
+        }
+    }
+}

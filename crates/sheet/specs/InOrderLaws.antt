@@ -1,5 +1,5 @@
 -- Laws of judging fields in order: what is fine, what is left, and what room does.
-use Rattle.std.specs.Prelude.{◌≡◌, Bool, true, false, ℕ, ◌+◌, ◌≤◌, ◌<◌, ltb, Result, Ok, Err}
+use Rattle.std.specs.Prelude.{◌≡◌, ℕ, ◌+◌, ◌≤◌, ◌<◌, ltb, Result, Ok, Err}
 use Rattle.std.proofs.Math.Path.{refl, ap₂}
 use Rattle.std.proofs.Common.{sym, ap, ◌∙◌, ltb-false, lt-ltb, le-ltb}
 use mathlib.Core.List.{List, [], ◌∷◌}
@@ -8,25 +8,14 @@ use Rattle.sheet.specs.declared.Field.{Field}
 use Rattle.answers.specs.declared.Refusal.{Refusal}
 use Rattle.answers.specs.Answers.{Answer, given, refused, Judgement, fine, when, also, number_in, values_in, refusal, told}
 use Rattle.answers.specs.AnswerLaws.{refused_given, when_fine, also_given}
-use Rattle.sheet.specs.Fields.{Values, kind_of, width, widths, judged, offset, with_offset, in_order}
+use Rattle.sheet.specs.Fields.{Values, kind_of, width, widths, judged, with_offset, in_order}
 use Rattle.sheet.specs.Calls.{judged_on, judged_in, judged_whole}
-use Rattle.sheet.specs.Order.{refused_if}
 use Rattle.sheet.specs.EachLaws.{All}
 
 -- An offset changes nothing where there is no refusal.
 pub with_offset_fine : (at : ℕ) (j : Judgement) → with_offset at j ≡ fine → j ≡ fine
 with_offset_fine at (given u) e = refl
 with_offset_fine at (refused number values) e = refused_given e
-
--- ---- the code's refusals, with the bit and without
-
-pub refused_when : (b : Bool) (r : Refusal) (number : ℕ) → ◌≡◌ {A = Judgement} (refusal r) (refused number []) → refused_if b r ≡ when b number
-refused_when true r number e = e
-refused_when false r number e = refl
-
-pub refused_offset : (b : Bool) (r : Refusal) (number at : ℕ) → ◌≡◌ {A = Judgement} (refusal r) (refused number (offset number at)) → refused_if b r ≡ with_offset at (when b number)
-refused_offset true r number at e = e
-refused_offset false r number at e = refl
 
 -- the refusal of the fields, or none, where the end is answered beside it
 pub judged_no : {w : Result ℕ Refusal} {r : Refusal} (j : Judgement) (end : ℕ) → told w ≡ also j (given end) → w ≡ Err r → j ≡ refusal r

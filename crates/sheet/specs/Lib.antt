@@ -1,8 +1,7 @@
--- The reader's part: the format, what the calls answer, the code's enums read as document 01's answers, and what each call promises.
+-- The reader's part: the format, what the calls answer, and what each call promises.
 pub mod Fields
 pub mod Calls
 pub mod Conversions
-pub mod Answers
 pub mod Tasks
 pub mod Lateness
 pub mod Promises

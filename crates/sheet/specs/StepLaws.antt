@@ -1,6 +1,6 @@
 -- Laws of the steps: going from field to field passes the list of them.
 use Rattle.std.specs.Prelude.{◌≡◌, refl, Bool, eqb, Option, Some, None}
-use Rattle.std.proofs.Common.{sym, add-one, arith, lt-ltb, le-ltb, ne_eqb}
+use Rattle.std.proofs.Common.{sym, ◌∙◌, add-one, arith, lt-ltb, le-ltb, ne_eqb}
 use Rattle.std.proofs.Math.Path.{ap, subst}
 use Rattle.std.proofs.Math.Bool.{cond}
 use mathlib.Core.List.{List, [], ◌∷◌, ◌++◌}
@@ -95,10 +95,10 @@ left_all v =
     }
 
 -- nothing, after the last field
-pub left_none : (v : Values) (at : ℕ) (fs : List Field) → Left v None at fs → (fs ≡ []) × (at ≡ widths (fields v))
+pub left_none : {f : Option Field} (v : Values) (at : ℕ) (fs : List Field) → Left v f at fs → f ≡ None → (fs ≡ []) × (at ≡ widths (fields v))
 unfolding widths Walk
-left_none v at [] l = (refl, omega (arith, l.ends))
-left_none v at (x ∷ xs) l = let e : None ≡ Some x = l.walk.0 in cc
+left_none v at [] l e = (refl, omega (arith, l.ends))
+left_none v at (x ∷ xs) l e = let p : None ≡ Some x = sym e ∙ l.walk.0 in cc
 
 -- a step along the fields
 pub record Step (v : Values) (f : Field) (at : ℕ) (fs : List Field) : Type 0 where
@@ -108,13 +108,13 @@ pub record Step (v : Values) (f : Field) (at : ℕ) (fs : List Field) : Type 0 w
   pub room : at + width f ≤ widths (fields v)
   pub later : Left v (after (kind_of v) v f) (at + width f) rest
 
-pub left_step : (v : Values) (f : Field) (at : ℕ) (fs : List Field) → Left v (Some f) at fs → Step v f at fs
+pub left_step : {f : Option Field} {g : Field} (v : Values) (at : ℕ) (fs : List Field) → Left v f at fs → f ≡ Some g → Step v g at fs
 unfolding widths Walk
-left_step v f at [] l = let e : Some f ≡ None = l.walk in cc
-left_step v f at (x ∷ xs) l =
-    let p : Some f ≡ Some x = l.walk.0 in
-    let e : f ≡ x = cc in
-    subst (λ y. Step v y at (x ∷ xs)) (sym e)
+left_step {g = g} v at [] l e = let p : Some g ≡ None = sym e ∙ l.walk in cc
+left_step {g = g} v at (x ∷ xs) l e =
+    let p : Some g ≡ Some x = sym e ∙ l.walk.0 in
+    let q : g ≡ x = cc in
+    subst (λ y. Step v y at (x ∷ xs)) (sym q)
     (record {
       rest = xs;
       is = refl;

@@ -196,10 +196,11 @@ fn next_of(s: &Sheet, f: Field) -> Option<Field>
 fn ranged(refusal: Refusal, low: u32, high: u32, v: u32) -> Result<(), Refusal>
     ensures { told result ≡ refused_if (outside low high v) refusal }
 {
-    if v < low || high < v {
-        return Err(refusal);
+    if (low..=high).contains(&v) {
+        Ok(())
+    } else {
+        Err(refusal)
     }
-    Ok(())
 }
 
 // The refusal of a rank that repeats an earlier one.
@@ -300,7 +301,7 @@ fn put_fields(out: &mut [u8], s: &Sheet)
     let mut next = Some(opening_of(s));
     while let Some(f) = next {
         let width = width_of(f);
-        bits::put(&mut *out, at, width, value_of(s, f));
+        bits::put(out, at, width, value_of(s, f));
         next = next_of(s, f);
         at += width;
     }
@@ -461,8 +462,8 @@ pub fn write(s: Sheet, out: &mut [u8]) -> Result<usize, Refusal>
     if out.len() < size as usize {
         return Err(Refusal::Room);
     }
-    put_fields(&mut *out, &s);
-    bits::put(&mut *out, end, size * 8 - end, 0);
+    put_fields(out, &s);
+    bits::put(out, end, size * 8 - end, 0);
     Ok(size as usize)
 }
 

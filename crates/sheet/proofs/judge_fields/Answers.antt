@@ -24,7 +24,7 @@ pub overflow_add-end : goal.overflow_add-end
 overflow_add-end c =
     let v = value c.args.s.now in
     let l = c.loop-next in
-    let step = left_step v c.in-Some.f l.at l.invariant.0 (subst (λ f. Left v f l.at l.invariant.0) c.in-Some.is l.invariant.1) in
+    let step = left_step v l.at l.invariant.0 l.invariant.1 c.in-Some.is in
     omega (arith, c.width_of.ensures, step.room, ends_by v)
 
 pub returns-then-len-div_ceil : goal.returns-then-len-div_ceil
@@ -34,7 +34,7 @@ returns-then-len-div_ceil c =
     let judge = judged_in room v in
     let l = c.loop-next in
     let f = c.in-Some.f in
-    let step = left_step v f l.at l.invariant.0 (subst (λ f. Left v f l.at l.invariant.0) c.in-Some.is l.invariant.1) in
+    let step = left_step v l.at l.invariant.0 l.invariant.1 c.in-Some.is in
     let left = in_order judge (l.at + width f) step.rest in
     sym (ap (λ j. also j (given (widths (fields v))))
     (l.invariant.2 ∙ in_order_step step.is judge l.at ∙ ap (λ j. also j left) (judged_short room v l.at f (omega (arith, c.width_of.ensures, c.div_ceil.ensures)))))
@@ -43,7 +43,7 @@ pub judge_field-requires : goal.judge_field-requires
 judge_field-requires c =
     let v = value c.args.s.now in
     let l = c.loop-next in
-    (left_step v c.in-Some.f l.at l.invariant.0 (subst (λ f. Left v f l.at l.invariant.0) c.in-Some.is l.invariant.1)).place
+    (left_step v l.at l.invariant.0 l.invariant.1 c.in-Some.is).place
 
 pub returns-in_err-judge_field : goal.returns-in_err-judge_field
 returns-in_err-judge_field c =
@@ -52,7 +52,7 @@ returns-in_err-judge_field c =
     let judge = judged_in room v in
     let l = c.loop-next in
     let f = c.in-Some.f in
-    let step = left_step v f l.at l.invariant.0 (subst (λ f. Left v f l.at l.invariant.0) c.in-Some.is l.invariant.1) in
+    let step = left_step v l.at l.invariant.0 l.invariant.1 c.in-Some.is in
     let left = in_order judge (l.at + width f) step.rest in
     let p = err_from_is_err_and c.from_residual.result c.from_residual.ensures.1 in
     rw (p.1, p.2) (sym (ap (λ j. also j (given (widths (fields v))))
@@ -64,13 +64,13 @@ pub next_of-next-requires : goal.next_of-next-requires
 next_of-next-requires c =
     let v = value c.args.s.now in
     let l = c.loop-next in
-    (left_step v c.in-Some.f l.at l.invariant.0 (subst (λ f. Left v f l.at l.invariant.0) c.in-Some.is l.invariant.1)).place
+    (left_step v l.at l.invariant.0 l.invariant.1 c.in-Some.is).place
 
 pub loop-next-smaller : goal.loop-next-smaller
 loop-next-smaller c =
     let v = value c.args.s.now in
     let l = c.loop-next in
-    let step = left_step v c.in-Some.f l.at l.invariant.0 (subst (λ f. Left v f l.at l.invariant.0) c.in-Some.is l.invariant.1) in
+    let step = left_step v l.at l.invariant.0 l.invariant.1 c.in-Some.is in
     omega (arith, c.width_of.ensures, width_small c.in-Some.f, step.room, ends_by v)
 
 pub loop-next-preserved : goal.loop-next-preserved
@@ -80,7 +80,7 @@ loop-next-preserved c =
     let judge = judged_in room v in
     let l = c.loop-next in
     let f = c.in-Some.f in
-    let step = left_step v f l.at l.invariant.0 (subst (λ f. Left v f l.at l.invariant.0) c.in-Some.is l.invariant.1) in
+    let step = left_step v l.at l.invariant.0 l.invariant.1 c.in-Some.is in
     let left = in_order judge (l.at + width f) step.rest in
     let w = c.width_of.ensures in (
       step.rest,
@@ -96,5 +96,5 @@ pub returns : goal.returns
 returns c =
     let v = value c.args.s.now in
     let l = c.loop-next in
-    let none = left_none v l.at l.invariant.0 (subst (λ f. Left v f l.at l.invariant.0) c.in_default.is l.invariant.1) in
+    let none = left_none v l.at l.invariant.0 l.invariant.1 c.in_default.is in
     sym (ap₂ (λ j k. also j (given k)) (l.invariant.2 ∙ in_order_none none.0 (judged_in (c.args.len * 8) v) l.at) (sym none.1))

@@ -27,26 +27,26 @@ pub value_of-requires : goal.value_of-requires
 value_of-requires c =
     let v = value c.args.s.now in
     let l = c.loop-next in
-    (left_step v c.in-Some.f l.at l.invariant.1 (subst (λ f. Left v f l.at l.invariant.1) c.in-Some.is l.invariant.2)).place
+    (left_step v l.at l.invariant.1 l.invariant.2 c.in-Some.is).place
 
 pub next_of-next-requires : goal.next_of-next-requires
 next_of-next-requires c =
     let v = value c.args.s.now in
     let l = c.loop-next in
-    (left_step v c.in-Some.f l.at l.invariant.1 (subst (λ f. Left v f l.at l.invariant.1) c.in-Some.is l.invariant.2)).place
+    (left_step v l.at l.invariant.1 l.invariant.2 c.in-Some.is).place
 
 pub overflow_add-at : goal.overflow_add-at
 overflow_add-at c =
     let v = value c.args.s.now in
     let l = c.loop-next in
-    let step = left_step v c.in-Some.f l.at l.invariant.1 (subst (λ f. Left v f l.at l.invariant.1) c.in-Some.is l.invariant.2) in
+    let step = left_step v l.at l.invariant.1 l.invariant.2 c.in-Some.is in
     omega (arith, c.width_of-width.ensures, step.room, ends_by v)
 
 pub loop-next-smaller : goal.loop-next-smaller
 loop-next-smaller c =
     let v = value c.args.s.now in
     let l = c.loop-next in
-    let step = left_step v c.in-Some.f l.at l.invariant.1 (subst (λ f. Left v f l.at l.invariant.1) c.in-Some.is l.invariant.2) in
+    let step = left_step v l.at l.invariant.1 l.invariant.2 c.in-Some.is in
     omega (arith, c.width_of-width.ensures, width_small c.in-Some.f, step.room, ends_by v)
 
 pub loop-next-preserved : goal.loop-next-preserved
@@ -54,7 +54,7 @@ loop-next-preserved c =
     let v = value c.args.s.now in
     let l = c.loop-next in
     let f = c.in-Some.f in
-    let step = left_step v f l.at l.invariant.1 (subst (λ f. Left v f l.at l.invariant.1) c.in-Some.is l.invariant.2) in
+    let step = left_step v l.at l.invariant.1 l.invariant.2 c.in-Some.is in
     let w : ℕ = c.width_of-width.result in
     let w-is : w ≡ width f = c.width_of-width.ensures in
     let field = bits (width f) (v f) in
@@ -76,5 +76,5 @@ pub returns : goal.returns
 returns c =
     let v = value c.args.s.now in
     let l = c.loop-next in
-    let none = left_none v l.at l.invariant.1 (subst (λ f. Left v f l.at l.invariant.1) c.in_default.is l.invariant.2) in
+    let none = left_none v l.at l.invariant.1 l.invariant.2 c.in_default.is in
     sym (ap (λ x. sets (unpack l.out) l.at x) (bits_none none.0 v)) ∙ l.invariant.3

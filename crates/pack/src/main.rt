@@ -2,63 +2,38 @@
 // error: `refused` and the number of the refusal, or `mistake` and the number of the mistake.
 #![tactic(auto)]
 
-use sheet::{Sheet, Written};
-use text::Parsed;
+use answers::Refusal;
+use page::File;
+use sheet::Sheet;
+use std::fmt::Write;
 
-// A fault above this is a refusal.
-const REFUSALS: u8 = 100;
-
-fn short(x: u8) -> u32 {
-    x as u32
+// The bytes of a sheet, put into a buffer.
+fn packed<'a>(s: Sheet, out: &'a mut [u8]) -> Result<&'a [u8], Refusal> {
+    let size = sheet::write(s, out)?;
+    Ok(&out[..size])
 }
 
-fn wide(x: u32) -> u64 {
-    x as u64
-}
-
-fn print_number(label: &[u8], n: u32) {
-    io::write_all(2, label);
-    io::print_decimal(2, wide(n));
-}
-
-fn print_fault(p: Parsed) {
-    if p.fault < REFUSALS {
-        print_number(b"mistake ", short(p.fault));
-    } else {
-        print_number(b"refused ", short(p.fault - REFUSALS));
-    }
-    print_number(b" line ", p.line);
-    print_number(b" column ", p.column);
-    io::write_all(2, b"\n");
-}
-
-fn send(out: &[u8], size: usize) {
-    if size <= out.len() {
-        io::write_all(1, &out[..size]);
-    }
-}
-
-fn put(s: Sheet) {
+fn send(s: Sheet) {
     let mut out = [0u8; 178];
-    let w = sheet::write(s, &mut out);
-    let Written::Bytes(size) = w else {
-        return page::print_refusal_to(2, sheet::written_refusal(w));
-    };
-    send(&out, size);
-}
-
-fn pack(typed: &[u8]) {
-    let p = text::parse(typed);
-    if p.fault == 0 {
-        put(p.sheet);
-    } else {
-        print_fault(p);
+    match packed(s, &mut out) {
+        Ok(bytes) => {
+            let _ = io::write_all(1, bytes);
+        }
+        Err(refusal) => {
+            let _ = writeln!(File(2), "{refusal}");
+        }
     }
 }
 
-// What lies past the 16,385th byte never changes the answer, so this buffer serves texts of any length.
+// What lies past the 16,385th byte never changes the answer, so this buffer serves texts of any length. Whether the output could be written
+// is for the launcher to see.
 fn main() {
     let mut input = [0u8; 16385];
     let n = io::read_full(0, &mut input);
-    pack(&input[..n]);
+    match text::parse(&input[..n]) {
+        Ok(s) => send(s),
+        Err(fault) => {
+            let _ = writeln!(File(2), "{fault}");
+        }
+    }
 }

@@ -6,9 +6,8 @@
 mod answer;
 
 ghost use Rattle.std.specs.Prelude.{◌≡◌, ◌-◌, ◌*◌, ◌<◌, ◌≤◌, length};
-ghost use Rattle.bits.specs.Bits.{unpack};
 ghost use Rattle.answers.specs.Answers.{told};
-ghost use Rattle.sheet.specs.Calls.{first_one, tail_of};
+ghost use Rattle.sheet.specs.Calls.{tail_of};
 ghost use Rattle.clocklog.specs.Format.{most_time, begin, kind, counter, before, gap, within, index_judged, kind_judged, counter_judged, entry_judged, records_judged, head_judged, kind_in};
 ghost use Rattle.clocklog.specs.Promises.{CountPromise, EntryPromise, JudgePromise};
 
@@ -181,34 +180,15 @@ fn judge_records(log: &[u8], tasks: u8, n: u16) -> Result<(), Refusal>
     Ok(())
 }
 
-// The first bit that is 1 from a bit on, or the end if none before it is.
-fn first_one(log: &[u8], at: u32, end: u32) -> u32
-    requires { at ≤ end }
-    ensures { result ≡ first_one (unpack log.now) at (end - at) }
-{
-    for k in at..end {
-        if 0 < bits::number(log, k, 1) {
-            return k;
-        }
-    }
-    end
-}
-
 // What follows the last field.
 fn judge_tail(log: &[u8], end: u32) -> Result<(), Refusal>
     requires { end < 4000000 }
     ensures { told result ≡ tail_of log.now end }
 {
-    let size = (end + 7) / 8;
-    let surplus = size * 8;
-    let wrong = first_one(log, end, surplus);
-    if wrong < surplus {
-        return Err(Refusal::Surplus(wrong));
+    match bits::surplus(log, end) {
+        Some(bit) => Err(Refusal::Surplus(bit as u32)),
+        None => Ok(()),
     }
-    if (size as usize) < log.len() {
-        return Err(Refusal::Surplus(surplus));
-    }
-    Ok(())
 }
 
 fn judge_head(len: usize) -> Result<(), Refusal>

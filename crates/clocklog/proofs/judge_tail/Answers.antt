@@ -1,12 +1,18 @@
--- Where no bit is wrong the first wrong one is that of the next byte.
-use Rattle.std.proofs.Common.{ℕ, ◌+◌, ◌-◌, ◌*◌, ◌/◌, [], ◌∷◌, sym, ap, ◌∙◌, arith}
+-- The first bit that is wrong is within the last byte, or the one behind it.
+use Rattle.std.proofs.Common.{◌+◌, ◌-◌, ◌*◌, ◌/◌, sym, ◌∙◌, arith}
 use Rattle.bits.specs.Bits.{unpack}
-use Rattle.answers.specs.Answers.{refused}
-use Rattle.sheet.specs.TailLaws.{first_one_most, tail_longer}
+use Rattle.bits.specs.SurplusLaws.{surplus_some, first_one_most}
+use Rattle.sheet.specs.TailLaws.{tail_none, tail_some}
 use Rattle.clocklog.proofs.judge_tail.Goals as goal
 
-pub returns-then-size-log : goal.returns-then-size-log
-returns-then-size-log c =
+pub overflow_cast-result : goal.overflow_cast-result
+overflow_cast-result c =
     let a = c.args in
-    let size : ℕ = (a.end + 7) / 8 in
-    ap (λ k. refused 9 (k ∷ [])) {x = size * 8} (omega (arith, c.first_one-wrong.ensures, first_one_most (unpack a.log.now) a.end (size * 8 - a.end))) ∙ sym (tail_longer a.log.now a.end (omega arith))
+    let wrong = surplus_some a.log.now a.end (sym c.surplus.ensures ∙ c.in-Some.is) in
+    omega (arith, wrong.0, first_one_most (unpack a.log.now) a.end ((a.end + 7) / 8 * 8 - a.end))
+
+pub returns-in-Some : goal.returns-in-Some
+returns-in-Some c = sym (tail_some c.args.log.now c.args.end (sym c.surplus.ensures ∙ c.in-Some.is))
+
+pub returns-in-None : goal.returns-in-None
+returns-in-None c = sym (tail_none c.args.log.now c.args.end (sym c.surplus.ensures ∙ c.in-None.is))

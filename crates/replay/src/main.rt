@@ -3,87 +3,55 @@
 // the file that it is about.
 #![tactic(auto)]
 
-use answers::{Refusal, Verdict};
-use night::{Break, Longest, Replay, Replayed};
+use answers::Refusal;
+use night::{Longest, Replayed};
+use page::File;
+use std::fmt;
+use std::fmt::Write;
 
-// "the longest delay from release with its smallest job number, or none"
-fn print_longest(l: Longest) {
-    match l {
-        Longest::Nothing => {
-            io::write_all(1, b"\nlongest none");
-        }
-        Longest::Delay(ticks, job) => {
-            page::print_number(b"\nlongest ", ticks);
-            page::print_number(b" job ", job);
-        }
+// "the longest delay from release with its smallest job number, or none", and "the breaking record, or none"
+fn print_replayed(out: &mut File, replayed: Replayed) -> fmt::Result {
+    writeln!(out, "records {}", replayed.records)?;
+    writeln!(out, "paths {}", replayed.paths)?;
+    match replayed.longest {
+        None => writeln!(out, "longest none")?,
+        Some(Longest { ticks, job }) => writeln!(out, "longest {ticks} job {job}")?,
+    }
+    writeln!(out, "figure {}", replayed.figure.ticks)?;
+    match replayed.breaking {
+        None => writeln!(out, "agrees"),
+        Some(record) => writeln!(out, "breaks at record {record}"),
     }
 }
 
-// "the breaking record, or none"
-fn print_break(b: Break) {
-    match b {
-        Break::Nowhere => {
-            io::write_all(1, b"\nagrees\n");
-        }
-        Break::At(record) => {
-            page::print_number(b"\nbreaks at record ", record);
-            io::write_all(1, b"\n");
-        }
+// What the replay refuses is about the log where the refusal is one of a log's. The sheet has been read by then: bytes that end too early, or
+// that follow the last, are the log's.
+fn file_of(refusal: Refusal) -> &'static str {
+    match refusal {
+        Refusal::Cut(_) | Refusal::Surplus(_) => "log",
+        Refusal::LogTask | Refusal::LogKind | Refusal::LogTime => "log",
+        _ => "sheet",
     }
 }
 
-fn print_replayed(r: Replayed) {
-    page::print_number(b"records ", r.records);
-    page::print_number(b"\npaths ", r.paths);
-    let longest = r.longest;
-    print_longest(longest);
-    let figure = r.figure;
-    page::print_number(b"\nfigure ", figure.ticks);
-    let breaking = r.breaking;
-    print_break(breaking);
-}
-
-fn number_of(r: Refusal) -> u8 {
-    match r {
-        Refusal::Number(n) => n,
-        Refusal::With(n, _) => n,
-    }
-}
-
-// What the replay refuses is about the log where the number is one of a log's. The sheet has been read by then: 1 and 9 of its bytes are past.
-fn print_refusal(r: Refusal) {
-    match number_of(r) {
-        1 | 9 | 19 | 20 | 21 => print_refusal_of(b"log: ", r),
-        _ => print_refusal_of(b"sheet: ", r),
-    }
-}
-
-fn print_refusal_of(file: &[u8], r: Refusal) {
-    io::write_all(1, file);
-    page::print_refusal(r);
-}
-
-fn replay(bytes: &[u8], log: &[u8], table: &mut [u32]) {
-    let r = sheet::read(bytes);
-    let v = r.verdict;
-    let Verdict::Fine = v else {
-        return print_refusal_of(b"sheet: ", answers::refusal_of(v));
+fn replay(out: &mut File, bytes: &[u8], log: &[u8], table: &mut [u32]) -> fmt::Result {
+    let s = match sheet::read(bytes) {
+        Ok(s) => s,
+        Err(refusal) => return writeln!(out, "sheet: {refusal}"),
     };
-    let s = r.sheet;
-    let a = night::replay(s, log, table);
-    let Replay::Of(replayed) = a else {
-        return print_refusal(night::replay_refusal(a));
-    };
-    print_replayed(replayed);
+    match night::replay(s, log, table) {
+        Ok(replayed) => print_replayed(out, replayed),
+        Err(refusal) => writeln!(out, "{}: {refusal}", file_of(refusal)),
+    }
 }
 
 // What lies past the 179th byte never changes the answer of a sheet. A log has at most 18,945 bytes, and of what follows only whether anything
-// does matters. So these buffers serve inputs of any length.
+// does matters. So these buffers serve inputs of any length. Whether the output could be written is for the launcher to see.
 fn main() {
     let mut input = io::buffer();
     let n = io::read_full(0, &mut input);
     let mut log = [0u8; 18946];
     let m = io::read_full(3, &mut log);
     let mut table = [0u32; 8192];
-    replay(&input[..n], &log[..m], &mut table);
+    let _ = replay(&mut File(1), &input[..n], &log[..m], &mut table);
 }

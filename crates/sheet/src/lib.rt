@@ -468,7 +468,7 @@ pub fn write(s: Sheet, out: &mut [u8]) -> Result<usize, Refusal>
 }
 
 // The sheet in the second edition: an old one's chain is its only one, under the old limit.
-#[tactic(auto, using(answers::specs::AnswerLaws::also_no, answers::specs::AnswerLaws::also_fine), unfolding(crate::specs::Conversions::to_second))]
+#[tactic(auto, unfolding(crate::specs::Conversions::to_second))]
 pub fn to_second(s: Sheet) -> Result<Sheet, Refusal>
     ensures { ToSecondPromise s result }
 {
@@ -487,7 +487,7 @@ pub fn to_second(s: Sheet) -> Result<Sheet, Refusal>
 }
 
 // The sheet as an old one, if it has one chain under the old limit.
-#[tactic(auto, using(answers::specs::AnswerLaws::also_no, answers::specs::AnswerLaws::also_fine), unfolding(crate::specs::Conversions::to_first))]
+#[tactic(auto, unfolding(crate::specs::Conversions::to_first))]
 pub fn to_first(s: Sheet) -> Result<Sheet, Refusal>
     ensures { ToFirstPromise s result }
 {

@@ -7,6 +7,7 @@ use lib.Dec.{ltb}
 use lib.ListN.{length, length-append}
 use lib.Seq.{sets}
 use borrow.Author.Tests.{lt-ltb, le-ltb}
+use Rattle.std.proofs.Common.{rules}
 use Rattle.std.proofs.lemmas.Result.{err_from_is_err_and}
 use Rattle.bits.specs.Bits.{bits, unpack}
 use Rattle.bits.specs.Laws.{length_bits, zero_bits}
@@ -81,5 +82,5 @@ returns c =
           ∙ sym (ap (λ j. also j (afterwards s (length old))) (whole s ∙ fine.0)
           ∙ ap (λ b. also (when b 14) (given (size_of s))) (le-ltb (length old) (size_of s) fits)),
       written_is bs pad (length-append bs pad ∙ omega (arith, long, length_bits z 0, c.div_ceil-size.ensures)) (zero_bits z) old _
-          (λ i. omega (arith, c.slice_known-1.given i)) (λ i. omega (arith, c.type_inv.out i)) (omega (arith, long, end_is)) put,
+          (λ i. search rules) (λ i. omega (arith, c.type_inv.out i)) (omega (arith, long, end_is)) put,
     )

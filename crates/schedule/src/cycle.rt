@@ -1,4 +1,4 @@
-// The tasks of a sheet over their hyperperiod, in which every schedule of them with full budgets repeats.
+// The tasks of a sheet over their hyperperiod: H and J, and the table filled row by row.
 ghost use Rattle.std.specs.Prelude.{◌≡◌, ◌≤◌};
 ghost use Rattle.arith.specs.Limit.{within};
 ghost use Rattle.theory.specs.Model.Responses.{hyperperiod, all_jobs};
@@ -61,12 +61,13 @@ fn job_count(tasks: &[Task], h: u32) -> u32
 
 impl<'a> Cycle<'a> {
     ghost use Rattle.std.specs.Prelude.{◌≡◌, ◌≤◌, ◌<◌, suc, length, IfOk};
+    ghost use Rattle.theory.specs.Model.Schedule.{rank};
     ghost use Rattle.theory.specs.Model.Responses.{jobs, all_jobs, task_response};
     ghost use Rattle.answers.specs.Answers.{given, after, told};
     ghost use Rattle.sheet.specs.Calls.{places};
     ghost use Rattle.sheet.specs.Tasks.{tasks_of};
     ghost use Rattle.schedule.specs.Calls.{sizes_of};
-    ghost use Rattle.schedule.specs.Conditions.{RowFilled, Noted, FoundTo, Filled, FilledAs};
+    ghost use Rattle.schedule.specs.Conditions.{taken, Above, RowFilled, Noted, FoundTo, Filled, FilledAs};
     ghost use Rattle.schedule.specs.Taken.{Holds};
 
     // For a sheet that is judged fine and keeps the limits of H and J.
@@ -76,19 +77,14 @@ impl<'a> Cycle<'a> {
     {
         sheet::judge(*s)?;
         let tasks = &s.tasks[..s.count as usize];
-        let Some(h) = hyperperiod(tasks) else {
-            return Err(Refusal::Hyperperiod);
-        };
-        let jobs = job_count(tasks, h);
+        let hyperperiod = hyperperiod(tasks).ok_or(Refusal::Hyperperiod)?;
+        let jobs = job_count(tasks, hyperperiod);
         if MOST_JOBS < jobs {
             return Err(Refusal::Jobs);
         }
         Ok(Cycle {
             tasks,
-            size: Size {
-                hyperperiod: h,
-                jobs,
-            },
+            size: Size { hyperperiod, jobs },
         })
     }
 
@@ -100,17 +96,36 @@ impl<'a> Cycle<'a> {
         (self.size.hyperperiod / self.tasks[i].period) as usize
     }
 
+    // The tasks that outrank task i.
+    fn level(&self, i: usize) -> Level
+        requires { i < length self.now.tasks.now }
+        ensures { Above self.now.tasks.now (rank self.now.tasks.now i) (taken result) }
+    {
+        let own = self.tasks[i].rank;
+        let mut level = Level::default();
+        for task in self.tasks {
+            if own < task.rank {
+                level.add(*task);
+            }
+        }
+        level
+    }
+
     // Fills the row of task i.
     fn fill_row(&self, i: usize, row: &mut [u32]) -> Option<u32>
         requires known { i < length self.now.tasks.now }
         requires whole { length row.old ≡ jobs self.now.tasks.now i }
         ensures { RowFilled self.now.tasks.now i row.new result }
     {
-        let own = self.tasks[i];
-        let mut level = Level::above(self.tasks, own.rank);
+        let mut level = self.level(i);
         let size = level.size;
         let others = &mut level.places[..size];
-        walk_row(Place::from(own), others, self.size.hyperperiod, &mut *row)
+        walk_row(
+            Place::from(self.tasks[i]),
+            others,
+            self.size.hyperperiod,
+            &mut *row,
+        )
     }
 
     // What the rows tell up to that of task i, from what those before it and its own tell: the lowest-ranked task, or that one is late,

@@ -1,4 +1,4 @@
-// The tasks that outrank one, in places: those of one period are released together, so they take one.
+// The places of a level: tasks of one period are released together, so they take one.
 ghost use Rattle.std.specs.Prelude.{◌≤◌, length};
 
 use theory::Task;
@@ -49,30 +49,27 @@ pub(crate) struct Level {
     ghost few: { size ≤ length places },
 }
 
-impl Level {
-    ghost use Rattle.std.specs.Prelude.{◌+◌, ◌<◌, ◌^◌, ℕ};
-    ghost use Rattle.schedule.specs.Tasks.{Fine};
-    ghost use Rattle.schedule.specs.Conditions.{place_at, taken, Adds, Above};
+// No place is taken.
+impl Default for Level {
+    ghost use Rattle.std.specs.Prelude.{◌≡◌, []};
+    ghost use Rattle.schedule.specs.Conditions.{taken};
 
-    // The tasks of a list that outrank a rank.
-    pub(crate) fn above(tasks: &[Task], rank: u8) -> Level
-        requires { Fine tasks.now }
-        ensures { Above tasks.now rank (taken result) }
-    {
-        let mut level = Level {
+    ghost is_default = { λ level. taken level ≡ [] };
+
+    fn default() -> Level {
+        Level {
             places: [Place::default(); 16],
             size: 0,
-        };
-        for task in tasks {
-            if rank < task.rank {
-                level.add(*task);
-            }
         }
-        level
     }
+}
+
+impl Level {
+    ghost use Rattle.std.specs.Prelude.{◌+◌, ◌<◌, ◌^◌, ℕ};
+    ghost use Rattle.schedule.specs.Conditions.{place_at, taken, Adds};
 
     // A task more, in the place of its period or in one of its own.
-    fn add(&mut self, task: Task)
+    pub(crate) fn add(&mut self, task: Task)
         requires room { self.old.size < 16 }
         requires fits { (p : ℕ) → p < self.old.size → (place_at self.old.places p).budget + task.budget < 2 ^ 32 }
         ensures { Adds (taken self.old) task (taken self.new) }

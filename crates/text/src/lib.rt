@@ -129,20 +129,10 @@ impl Page {
         requires { length self.old ≤ 1152 }
         ensures { self.new ≡ self.old ++ chain_lines s.edition s.chains (chain_count s) }
     {
-        for c in 0..chains_of(s) {
+        for c in 0..sheet::chain_count(s).min(8) {
             self.put_chain(s.edition, s.chains[usize::from(c)]);
         }
     }
-}
-
-fn chains_of(s: Sheet) -> u8
-    ensures is { result ≡ chain_count s }
-    ensures few { result ≤ 8 }
-{
-    if s.edition == 1 {
-        return 1;
-    }
-    s.suite.min(8)
 }
 
 fn page_of(s: Sheet) -> Page
@@ -816,25 +806,27 @@ fn keep_name<'a>(names: &mut [&'a [u8]; 16], place: Place, d: Draft, b: u8, rest
     }
 }
 
-// What is wrong after so much of a text.
-fn fault_after(front: &[u8], wrong: Wrong) -> Fault
-    requires { length front.now ≤ 16384 }
-    ensures { result ≡ faulty wrong front.now }
-{
-    let mut line = 1u32;
-    let mut column = 1u32;
-    for b in front {
-        if *b == b'\n' {
-            line += 1;
-            column = 1;
-        } else {
-            column += 1;
+impl Fault {
+    // What is wrong after so much of a text.
+    fn after(front: &[u8], wrong: Wrong) -> Self
+        requires { length front.now ≤ 16384 }
+        ensures { result ≡ faulty wrong front.now }
+    {
+        let mut line = 1u32;
+        let mut column = 1u32;
+        for b in front {
+            if *b == b'\n' {
+                line += 1;
+                column = 1;
+            } else {
+                column += 1;
+            }
         }
-    }
-    Fault {
-        wrong,
-        line,
-        column,
+        Fault {
+            wrong,
+            line,
+            column,
+        }
     }
 }
 
@@ -842,7 +834,7 @@ fn placed_after(front: &[u8], r: Result<Draft, Wrong>) -> Result<Draft, Fault>
     requires { length front.now ≤ 16384 }
     ensures { result ≡ placed front.now r }
 {
-    r.map_err(|wrong| fault_after(front, wrong))
+    r.map_err(|wrong| Fault::after(front, wrong))
 }
 
 fn scan(text: &[u8]) -> Result<Draft, Fault>
@@ -893,7 +885,7 @@ pub fn parse(text: &[u8]) -> Result<Sheet, Fault>
     ensures { ParsePromise text.now result }
 {
     if SIZE < text.len() {
-        return Err(fault_after(&text[..SIZE], Wrong::TooLong));
+        return Err(Fault::after(&text[..SIZE], Wrong::TooLong));
     }
     let d = scan(text)?;
     Ok(sheet_of(d))

@@ -1,8 +1,8 @@
 -- Each byte leads to the next line or the next column.
 use Rattle.std.proofs.Common.{sym, ap₂, ◌∙◌, arith}
 use Rattle.text.specs.RunLaws.{line_ends, line_stays, column_ends, column_stays, line_none, column_none}
-use Rattle.text.proofs.fault_after.Goals as goal
-use Rattle.text.proofs.fault_after.Goals.{then-b-eq10, else-b-eq10}
+use Rattle.text.proofs.Fault.after.Goals as goal
+use Rattle.text.proofs.Fault.after.Goals.{then-b-eq10, else-b-eq10}
 
 pub loop-b-preserved : goal.loop-b-preserved
 loop-b-preserved c =

@@ -1,6 +1,6 @@
 use Rattle.std.proofs.Common.{◌≡◌, ◌+◌, ◌≤◌, drop}
 use Rattle.text.specs.Run.{line_after, column_after}
-use Rattle.text.proofs.fault_after.Given as goal
+use Rattle.text.proofs.Fault.after.Given as goal
 
 -- The line and the column after the bytes that are left are those after all.
 abbrev pub invariant-loop-b : goal.invariant-loop-b

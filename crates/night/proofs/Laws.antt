@@ -15,7 +15,7 @@ use Rattle.clocklog.specs.Format.{kind_in, event}
 use Rattle.night.specs.declared.state.Progress.{Progress}
 use Rattle.night.specs.Pass.{State, Step, broken, on, turn, put, share, goes_on, quiet, stretched, wait, accept, step}
 use Rattle.night.specs.PassLaws.{put_same, put_other}
-use Rattle.night.specs.Conditions.{slot, begun, ended_in, ran_in}
+use Rattle.night.specs.Conditions.{slot, known, begun, ended_in, ran_in}
 
 -- A field of a list's entries, of which one is new
 module _ {A : Type 0} (f : A → ℕ) (d : A) (xs : List A) (i : ℕ) (v : A) where
@@ -176,3 +176,6 @@ slot_same (Some i) j h = go (eqb i j) refl h
     go : (b : Bool) → eqb i j ≡ b → not b ≡ false → busy i ≡ busy j
     go true e q = ap busy (eqb-true i j e)
     go false e q = absurd (true≢false q)
+
+pub known_at : (count : ℕ) (x : Option ℕ) → known count x → (i : ℕ) → x ≡ Some i → i < count
+known_at count x h i e = subst (known count) e h

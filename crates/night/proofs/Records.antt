@@ -15,7 +15,7 @@ use Rattle.night.specs.Pass.{State, fresh, put, Step, broken, on, step, further,
 use Rattle.night.specs.PassLaws.{put_same, put_other}
 use Rattle.night.specs.StepLaws.{step_parts, start_parts, finish_parts, wait_ended}
 use Rattle.night.specs.Follow.{stands, Readings, unread, ready, follow, followed}
-use Rattle.night.specs.Conditions.{readings_of, found_by, break_in, FoundIn}
+use Rattle.night.specs.Conditions.{written_in, readings_of, found_by, break_in, FoundIn}
 
 -- ---- the state
 
@@ -146,22 +146,22 @@ module _ (T : ℕ) (chain bytes : List ℕ) where
       one = omega arith
 
 -- What is found after r of n records, where the next breaks or there is none.
-module _ (ts : List Task) (chain bytes : List ℕ) (n r T : ℕ) (a : Places) (g : Tracked T chain bytes r (readings_of a)) (te : T ≡ period ts (first_of chain))
+module _ (ts : List Task) (chain bytes : List ℕ) (n r T : ℕ) (a : Places) (along : a.chain.now ≡ chain) (g : Tracked T chain bytes r (readings_of a)) (te : T ≡ period ts (first_of chain))
     (t : r ≡ taken ts (records_from bytes 0 n) fresh) where
-  found : (breaking : Option ℕ) → breaking ≡ break_in r n → (y : Found) → y ≡ found_by chain a breaking → FoundIn ts (first_of chain) (rest_of chain) bytes n y
+  found : (breaking : Option ℕ) → breaking ≡ break_in r n → (y : Found) → y ≡ found_by a breaking → FoundIn ts (first_of chain) (rest_of chain) bytes n y
   found breaking b y e = record {
     agreeing = r;
     agreeing_is = t;
     breaking_is = ap (λ (y : Found). y.breaking) e ∙ b;
-    paths_are = ap (λ (y : Found). y.paths) e ∙ ap (λ (a : Readings). a.writes (length (rest_of chain))) same;
+    paths_are = ap (λ (y : Found). y.paths) e ∙ ap (λ c. written_in a.places (length (rest_of c))) along ∙ ap (λ (a : Readings). a.writes (length (rest_of chain))) same;
     longest_is = ap (λ (y : Found). y.longest) e ∙ ap (λ (a : Readings). a.longest) same;
   }
     where
       same : readings_of a ≡ followed (period ts (first_of chain)) (first_of chain) (rest_of chain) (records_from bytes 0 r) unread
       same = g.readings ∙ ap (λ T. followed T (first_of chain) (rest_of chain) (records_from bytes 0 r) unread) te
 
-  pub found_break : r < n → (y : Found) → y ≡ found_by chain a (Some r) → FoundIn ts (first_of chain) (rest_of chain) bytes n y
+  pub found_break : r < n → (y : Found) → y ≡ found_by a (Some r) → FoundIn ts (first_of chain) (rest_of chain) bytes n y
   found_break l = found (Some r) (ap (λ b. cond b (Some r) None) (sym (lt-ltb r n l)))
 
-  pub found_all : n ≤ r → (y : Found) → y ≡ found_by chain a None → FoundIn ts (first_of chain) (rest_of chain) bytes n y
+  pub found_all : n ≤ r → (y : Found) → y ≡ found_by a None → FoundIn ts (first_of chain) (rest_of chain) bytes n y
   found_all l = found None (ap (λ b. cond b (Some r) None) (sym (le-ltb r n l)))

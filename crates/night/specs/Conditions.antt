@@ -25,6 +25,7 @@ abbrev pub slot : Option ℕ → Slot
 slot None = idle
 slot (Some i) = busy i
 
+-- It is one of so many.
 abbrev pub known : ℕ → Option ℕ → Type 0
 known count None = Unit {0}
 known count (Some i) = i < count
@@ -51,6 +52,10 @@ abbrev pub led : Bool → Held → Step
 led false s = broken
 led true s = on (state_of s)
 
+pub record Led (old : Held) (agrees : Bool) (new : Held) (x : Step) : Type 0 where
+  pub leads : led agrees new ≡ x
+  pub tasks_same : new.tasks.now ≡ old.tasks.now
+
 -- The first n records name tasks of the sheet, and their times are below the limit.
 pub record Sane (bytes : List ℕ) (tasks n : ℕ) : Type 0 where
   pub few : n ≤ 4095
@@ -76,6 +81,12 @@ written_in places q = (get_or places q unused).written
 abbrev pub readings_of : Places → Readings
 readings_of a = record { reads = read_in a.places; writes = written_in a.places; longest = a.longest }
 
+-- The readings that are left, along the same chain.
+pub record Along (old new : Places) (a : Readings) : Type 0 where
+  pub readings_are : readings_of new ≡ a
+  pub chain_same : new.chain.now ≡ old.chain.now
+  pub period_same : new.period ≡ old.period
+
 -- A job of the task has read at its place, and has written there.
 abbrev pub read_by : List ℕ → ℕ → Readings → Readings
 read_by chain task a =
@@ -86,8 +97,8 @@ written_by chain task a =
     record { reads = a.reads; writes = λ q. cond (stands (first_of chain) (rest_of chain) task q) (a.reads q) (a.writes q); longest = a.longest }
 
 -- What is found where the records break there, or nowhere.
-abbrev pub found_by : List ℕ → Places → Option ℕ → Found
-found_by chain a breaking = record { breaking = breaking; paths = written_in a.places (length (rest_of chain)); longest = a.longest }
+abbrev pub found_by : Places → Option ℕ → Found
+found_by a breaking = record { breaking = breaking; paths = written_in a.places (length (rest_of a.chain.now)); longest = a.longest }
 
 -- The break where so many of n records agree.
 abbrev pub break_in : ℕ → ℕ → Option ℕ

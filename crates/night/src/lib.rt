@@ -6,7 +6,7 @@
 mod answer;
 mod state;
 
-ghost use Rattle.std.specs.Prelude.{◌≡◌, true, IsTrue, [], ◌-◌, ◌*◌, ◌≤◌, ◌<◌, ℕ, length};
+ghost use Rattle.std.specs.Prelude.{◌≡◌, true, IsTrue, ◌-◌, ◌*◌, ◌≤◌, ◌<◌, length};
 ghost use Rattle.theory.specs.Model.Schedule.{rank, period};
 ghost use Rattle.theory.specs.Model.Greatest.{outranking};
 ghost use Rattle.theory.specs.Model.Responses.{Accepted};
@@ -18,7 +18,7 @@ ghost use Rattle.night.specs.Calls.{Follows};
 ghost use Rattle.night.specs.Promises.{ReplayPromise};
 ghost use Rattle.night.specs.Pass.{fresh, turn, goes_on, quiet, wait, accept, step};
 ghost use Rattle.night.specs.Follow.{unread, longer, longest_after, follow};
-ghost use Rattle.night.specs.Conditions.{slot, known, Room, ended_in, ran_in, state_of, led, event_of, Sane, Chained, written_in, readings_of, read_by, written_by, found_by, FoundIn};
+ghost use Rattle.night.specs.Conditions.{slot, known, Room, ended_in, ran_in, state_of, Led, event_of, Sane, Chained, written_in, readings_of, read_by, written_by, Along, found_by, FoundIn};
 
 pub use answer::{Longest, Replayed};
 use answers::Refusal;
@@ -50,12 +50,14 @@ fn greater(tasks: &[Task], i: u8, best: Option<u8>) -> Option<u8>
     }
 }
 
-impl State {
+impl State<'_> {
     // Where logging begins.
-    fn fresh() -> State
-        ensures { (state_of result ≡ fresh) × (result.last ≡ None) }
+    fn fresh(tasks: &[Task]) -> State<'_>
+        requires { length tasks.now ≤ 16 }
+        ensures { (state_of result ≡ fresh) × (result.tasks.now ≡ tasks.now) }
     {
         State {
+            tasks,
             tick: 0,
             last: None,
             jobs: [Progress::default(); 16],
@@ -63,63 +65,57 @@ impl State {
     }
 
     // What runs at a tick: of the tasks whose next job is released, the one of greatest rank.
-    fn turn(&self, tasks: &[Task], at: u32) -> Option<u8>
-        requires few { length tasks.now ≤ 16 }
-        ensures { (slot result ≡ turn tasks.now (ended_in self.now.jobs) at) × known (length tasks.now) result }
+    fn turn(&self, at: u32) -> Option<u8>
+        ensures { (slot result ≡ turn self.now.tasks.now (ended_in self.now.jobs) at) × known (length self.now.tasks.now) result }
     {
         let mut best = None;
-        for (i, task) in tasks.iter().enumerate() {
+        for (i, task) in self.tasks.iter().enumerate() {
             if release(self.jobs[i].ended, task.period) <= at as u64 {
-                best = greater(tasks, i as u8, best);
+                best = greater(self.tasks, i as u8, best);
             }
         }
         best
     }
 
     // The job that ran last may go on: it has budget left.
-    fn goes_on(&self, tasks: &[Task]) -> bool
-        requires few { length tasks.now ≤ 16 }
-        requires last_known { known (length tasks.now) self.now.last }
-        ensures { result ≡ goes_on tasks.now (ran_in self.now.jobs) (slot self.now.last) }
+    fn goes_on(&self) -> bool
+        ensures { result ≡ goes_on self.now.tasks.now (ran_in self.now.jobs) (slot self.now.last) }
     {
         match self.last {
             None => true,
-            Some(i) => self.jobs[i as usize].ran < tasks[i as usize].budget,
+            Some(i) => self.jobs[i as usize].ran < self.tasks[i as usize].budget,
         }
     }
 
     // In m ticks of the task nothing starts or ends.
-    fn is_quiet(&self, tasks: &[Task], m: u32, x: Option<u8>) -> bool
-        requires few { length tasks.now ≤ 16 }
-        requires task_known { known (length tasks.now) x }
-        ensures is_quiet { result ≡ quiet tasks.now (ran_in self.now.jobs) m (slot x) }
+    fn is_quiet(&self, m: u32, x: Option<u8>) -> bool
+        requires task_known { known (length self.now.tasks.now) x }
+        ensures is_quiet { result ≡ quiet self.now.tasks.now (ran_in self.now.jobs) m (slot x) }
         ensures room { IsTrue result → Room (ran_in self.now.jobs) m x }
     {
         let Some(i) = x else {
             return true;
         };
         let had = self.jobs[i as usize].ran;
-        let most = tasks[i as usize].budget;
+        let most = self.tasks[i as usize].budget;
         0 < had && had <= most && m <= most - had
     }
 
     // The ticks up to a record, in which nothing starts or ends; false where it breaks.
-    fn wait(&mut self, tasks: &[Task], at: u32) -> bool
-        requires few { length tasks.now ≤ 16 }
-        requires last_known { known (length tasks.now) self.old.last }
-        requires later { self.old.tick ≤ at }
-        ensures state_after { led result self.new ≡ wait tasks.now (state_of self.old) at }
-        ensures at_record { (result ≡ true → self.new.tick ≡ at) × known (length tasks.now) self.new.last }
+    fn wait(&mut self, at: u32) -> bool
+        requires { self.old.tick ≤ at }
+        ensures state_after { Led self.old result self.new (wait self.old.tasks.now (state_of self.old) at) }
+        ensures at_record { result ≡ true → self.new.tick ≡ at }
     {
         if at == self.tick {
             return true;
         }
-        if !self.goes_on(tasks) {
+        if !self.goes_on() {
             return false;
         }
-        let x = self.turn(tasks, at - 1);
+        let x = self.turn(at - 1);
         let m = at - self.tick;
-        if !self.is_quiet(tasks, m, x) {
+        if !self.is_quiet(m, x) {
             return false;
         }
         if let Some(i) = x {
@@ -131,16 +127,14 @@ impl State {
     }
 
     // The start of a job, at the state's tick.
-    fn start(&mut self, tasks: &[Task], task: u8) -> bool
-        requires few { length tasks.now ≤ 16 }
-        requires state_known { known (length tasks.now) self.old.last × (task < length tasks.now) × (self.old.tick < most_time) }
-        ensures state_after { led result self.new ≡ accept tasks.now (state_of self.old) (start task self.old.tick) }
-        ensures last_known { known (length tasks.now) self.new.last }
+    fn start(&mut self, task: u8) -> bool
+        requires { (task < length self.old.tasks.now) × (self.old.tick < most_time) }
+        ensures { Led self.old result self.new (accept self.old.tasks.now (state_of self.old) (start task self.old.tick)) }
     {
-        if !self.goes_on(tasks) {
+        if !self.goes_on() {
             return false;
         }
-        if self.turn(tasks, self.tick) != Some(task) {
+        if self.turn(self.tick) != Some(task) {
             return false;
         }
         let i = task as usize;
@@ -155,9 +149,8 @@ impl State {
 
     // The finish of a job, at the state's tick.
     fn finish(&mut self, task: u8) -> bool
-        requires { (task < 16) × (ended_in self.old.jobs task < 4294967295) }
-        ensures state_after { led result self.new ≡ accept [] (state_of self.old) (finish task self.old.tick) }
-        ensures last_known { (count : ℕ) → known count self.old.last → known count self.new.last }
+        requires { (task < length self.old.tasks.now) × (ended_in self.old.jobs task < 4294967295) }
+        ensures { Led self.old result self.new (accept self.old.tasks.now (state_of self.old) (finish task self.old.tick)) }
     {
         if self.last != Some(task) {
             return false;
@@ -172,21 +165,18 @@ impl State {
     }
 
     // One record of the pass; false where it breaks.
-    fn step(&mut self, tasks: &[Task], r: Record) -> bool
-        requires few { length tasks.now ≤ 16 }
-        requires last_known { known (length tasks.now) self.old.last }
-        requires record_known { (r.task < length tasks.now) × (r.at < most_time) × (ended_in self.old.jobs r.task < 4294967295) }
-        ensures state_after { led result self.new ≡ step tasks.now (state_of self.old) (event_of r) }
-        ensures last_known { known (length tasks.now) self.new.last }
+    fn step(&mut self, r: Record) -> bool
+        requires { (r.task < length self.old.tasks.now) × (r.at < most_time) × (ended_in self.old.jobs r.task < 4294967295) }
+        ensures { Led self.old result self.new (step self.old.tasks.now (state_of self.old) (event_of r)) }
     {
         if r.at < self.tick {
             return false;
         }
-        if !self.wait(tasks, r.at) {
+        if !self.wait(r.at) {
             return false;
         }
         match r.kind {
-            Kind::Start => self.start(tasks, r.task),
+            Kind::Start => self.start(r.task),
             Kind::Finish => self.finish(r.task),
         }
     }
@@ -209,25 +199,27 @@ fn longer_of(x: Option<Longest>, ticks: u32, job: u32) -> Option<Longest>
     }
 }
 
-impl Readings {
+impl Readings<'_> {
     // Where logging begins.
-    fn unread() -> Readings
-        ensures { readings_of result ≡ unread }
+    fn unread(chain: &[u8], period: u32) -> Readings<'_>
+        requires { Chained chain.now }
+        ensures { (readings_of result ≡ unread) × (result.chain.now ≡ chain.now) × (result.period ≡ period) }
     {
         Readings {
+            chain,
+            period,
             places: [Place::default(); 16],
             longest: None,
         }
     }
 
     // A start: the task's job reads what waits at its place, a new reading at the first place.
-    fn read(&mut self, chain: &[u8], task: u8)
-        requires chained { Chained chain.now }
-        requires room { written_in self.old.places 0 < 4294967295 }
-        ensures { readings_of self.new ≡ read_by chain.now task (readings_of self.old) }
+    fn read(&mut self, task: u8)
+        requires { written_in self.old.places 0 < 4294967295 }
+        ensures { Along self.old self.new (read_by self.old.chain.now task (readings_of self.old)) }
     {
         let mut ready = self.places[0].written + 1;
-        for (q, &entry) in chain.iter().enumerate() {
+        for (q, &entry) in self.chain.iter().enumerate() {
             if entry == task {
                 self.places[q].read = ready;
             }
@@ -236,11 +228,10 @@ impl Readings {
     }
 
     // A finish: the task's job writes what it has read.
-    fn write(&mut self, chain: &[u8], task: u8)
-        requires chained { Chained chain.now }
-        ensures { readings_of self.new ≡ written_by chain.now task (readings_of self.old) }
+    fn write(&mut self, task: u8)
+        ensures { Along self.old self.new (written_by self.old.chain.now task (readings_of self.old)) }
     {
-        for (q, &entry) in chain.iter().enumerate() {
+        for (q, &entry) in self.chain.iter().enumerate() {
             if entry == task {
                 self.places[q].written = self.places[q].read;
             }
@@ -248,45 +239,42 @@ impl Readings {
     }
 
     // The longest once the readings that are under way at the last place have come to their end there, where the task is the last.
-    fn longest_by(&self, chain: &[u8], period: u32, task: u8, at: u32) -> Option<Longest>
-        requires chained { Chained chain.now }
-        ensures { result ≡ longest_after period (first_of chain.now) (rest_of chain.now) (readings_of self.now) task at }
+    fn longest_by(&self, task: u8, at: u32) -> Option<Longest>
+        ensures { result ≡ longest_after self.now.period (first_of self.now.chain.now) (rest_of self.now.chain.now) (readings_of self.now) task at }
     {
-        let end = chain.len() - 1;
+        let end = self.chain.len() - 1;
         let place = self.places[end];
-        if chain[end] == task && place.written < place.read {
+        if self.chain[end] == task && place.written < place.read {
             return longer_of(
                 self.longest,
-                since(place.written, period, at),
+                since(place.written, self.period, at),
                 place.written,
             );
         }
         self.longest
     }
 
-    // One record followed along the chain, whose first task has this period.
-    fn follow(&mut self, chain: &[u8], period: u32, r: Record)
-        requires chained { Chained chain.now }
-        requires room { written_in self.old.places 0 < 4294967295 }
-        ensures { readings_of self.new ≡ follow period (first_of chain.now) (rest_of chain.now) (readings_of self.old) (event_of r) }
+    // One record followed along the chain.
+    fn follow(&mut self, r: Record)
+        requires { written_in self.old.places 0 < 4294967295 }
+        ensures { Along self.old self.new (follow self.old.period (first_of self.old.chain.now) (rest_of self.old.chain.now) (readings_of self.old) (event_of r)) }
     {
         match r.kind {
-            Kind::Start => self.read(chain, r.task),
+            Kind::Start => self.read(r.task),
             Kind::Finish => {
-                self.longest = self.longest_by(chain, period, r.task, r.at);
-                self.write(chain, r.task);
+                self.longest = self.longest_by(r.task, r.at);
+                self.write(r.task);
             }
         }
     }
 
     // What is found where the records break there, or nowhere.
-    fn found(&self, chain: &[u8], breaking: Option<u32>) -> Found
-        requires chained { Chained chain.now }
-        ensures { result ≡ found_by chain.now self.now breaking }
+    fn found(&self, breaking: Option<u32>) -> Found
+        ensures { result ≡ found_by self.now breaking }
     {
         Found {
             breaking,
-            paths: self.places[chain.len() - 1].written,
+            paths: self.places[self.chain.len() - 1].written,
             longest: self.longest,
         }
     }
@@ -301,8 +289,8 @@ fn run_log(tasks: &[Task], chain: &[u8], log: &[u8], n: u16) -> Found
     ensures { FoundIn tasks.now (first_of chain.now) (rest_of chain.now) log.now n result }
 {
     let period = tasks[chain[0] as usize].period;
-    let mut state = State::fresh();
-    let mut readings = Readings::unread();
+    let mut state = State::fresh(tasks);
+    let mut readings = Readings::unread(chain, period);
     let mut at = 0u32;
     for k in 0..n {
         let entry = clocklog::entry(log, k);
@@ -312,12 +300,12 @@ fn run_log(tasks: &[Task], chain: &[u8], log: &[u8], n: u16) -> Found
             kind: entry.kind,
             at,
         };
-        if !state.step(tasks, r) {
-            return readings.found(chain, Some(k as u32));
+        if !state.step(r) {
+            return readings.found(Some(k as u32));
         }
-        readings.follow(chain, period, r);
+        readings.follow(r);
     }
-    readings.found(chain, None)
+    readings.found(None)
 }
 
 // What the records hold, for a sheet and a log that are taken.

@@ -9,15 +9,26 @@ use Rattle.night.proofs.state.Readings.follow.Goals as goal
 pub returns-in-Start : goal.returns-in-Start
 unfolding follow
 returns-in-Start c =
-    let a = c.args in
-    let r = a.r in
-    c.read.ensures ∙ ap (λ k. follow a.period (first_of a.chain.now) (rest_of a.chain.now) (readings_of a.self.now) (event r.task (kind_in k) r.at)) (sym c.in-Start.is)
+    let a = c.args.self.now in
+    let r = c.args.r in
+    let e = c.read.ensures in
+    record {
+      readings_are = e.readings_are ∙ ap (λ k. follow a.period (first_of a.chain.now) (rest_of a.chain.now) (readings_of a) (event r.task (kind_in k) r.at)) (sym c.in-Start.is);
+      chain_same = e.chain_same;
+      period_same = e.period_same;
+    }
 
 pub returns-in-Finish : goal.returns-in-Finish
 unfolding follow
 returns-in-Finish c =
-    let a = c.args in
-    let r = a.r in
-    c.write.ensures
-    ∙ ap (λ x. written_by a.chain.now r.task (record (readings_of a.self.now) { longest = x })) c.longest_by-self.ensures
-    ∙ ap (λ k. follow a.period (first_of a.chain.now) (rest_of a.chain.now) (readings_of a.self.now) (event r.task (kind_in k) r.at)) (sym c.in-Finish.is)
+    let a = c.args.self.now in
+    let r = c.args.r in
+    let e = c.write.ensures in
+    record {
+      readings_are =
+          e.readings_are
+          ∙ ap (λ x. written_by a.chain.now r.task (record (readings_of a) { longest = x })) c.longest_by-self.ensures
+          ∙ ap (λ k. follow a.period (first_of a.chain.now) (rest_of a.chain.now) (readings_of a) (event r.task (kind_in k) r.at)) (sym c.in-Finish.is);
+      chain_same = e.chain_same;
+      period_same = e.period_same;
+    }

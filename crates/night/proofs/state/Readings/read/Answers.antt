@@ -13,15 +13,19 @@ loop-q-preserved c =
     let now = l.self.places in
     elim c.if-entry-task.branch [
       | then-entry-task w ↦ rw w.self-is (record {
-        reads = reads_here a.chain.now a.task was now l.q l.ready l.self.whole c.requires.chained.most c.loop-q-test.true i.reads i.writes i.next w.if-entry-task.true;
-        writes = writes_same a.chain.now a.task was now l.q l.ready l.self.whole c.requires.chained.most c.loop-q-test.true i.reads i.writes;
-        next = ready_next (written_in was) _ l.q (writes_same a.chain.now a.task was now l.q l.ready l.self.whole c.requires.chained.most c.loop-q-test.true i.reads i.writes);
+        reads = reads_here a.self.now.chain.now a.task was now l.q l.ready l.self.whole a.self.now.most c.loop-q-test.true i.reads i.writes i.next w.if-entry-task.true;
+        writes = writes_same a.self.now.chain.now a.task was now l.q l.ready l.self.whole a.self.now.most c.loop-q-test.true i.reads i.writes;
+        next = ready_next (written_in was) _ l.q (writes_same a.self.now.chain.now a.task was now l.q l.ready l.self.whole a.self.now.most c.loop-q-test.true i.reads i.writes);
         longest = i.longest;
+        chain_same = i.chain_same;
+        period_same = i.period_same;
       })
       | else-entry-task w ↦ rw w.self-is (record {
-        reads = reads_past a.chain.now a.task was now l.q l.ready l.self.whole c.requires.chained.most c.loop-q-test.true i.reads i.writes w.if-entry-task.false;
+        reads = reads_past a.self.now.chain.now a.task was now l.q l.ready l.self.whole a.self.now.most c.loop-q-test.true i.reads i.writes w.if-entry-task.false;
         writes = i.writes;
         next = ready_next (written_in was) (written_in now) l.q i.writes;
         longest = i.longest;
+        chain_same = i.chain_same;
+        period_same = i.period_same;
       })
     ]

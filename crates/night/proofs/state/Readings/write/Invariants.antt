@@ -6,7 +6,9 @@ use Rattle.night.proofs.state.Readings.write.Given as goal
 
 abbrev pub invariant-loop-q : goal.invariant-loop-q
 invariant-loop-q l = record {
-  writes : Swept l.chain l.task (read_in l.initial.self.places) (written_in l.initial.self.places) (written_in l.self.places) l.q;
+  writes : Swept l.initial.self.chain.now l.task (read_in l.initial.self.places) (written_in l.initial.self.places) (written_in l.self.places) l.q;
   reads : (j : ℕ) → read_in l.self.places j ≡ read_in l.initial.self.places j;
   longest : l.self.longest ≡ l.initial.self.longest;
+  chain_same : l.self.chain.now ≡ l.initial.self.chain.now;
+  period_same : l.self.period ≡ l.initial.self.period;
 }

@@ -1,10 +1,13 @@
 -- What finishes is the job that ran in the tick before.
-use Rattle.std.proofs.Common.{[], sym, ◌∙◌}
+use Rattle.std.proofs.Common.{refl, sym, ◌∙◌, arith}
 use Rattle.night.specs.Conditions.{slot}
 use Rattle.night.proofs.Laws.{slot_same, finish_goes}
 use Rattle.night.proofs.state.State.finish.Goals as goal
 
-pub returns-clause-state_after : goal.returns-clause-state_after
-returns-clause-state_after c =
+pub returns : goal.returns
+returns c =
     let s = c.args.self.now in
-    finish_goes s.jobs s.whole s.tick s.tick (slot s.last) [] c.args.task s.tick c.requires.0 (slot_same s.last c.args.task (sym c.ne.ensures ∙ c.if-ne.false))
+    record {
+      tasks_same = refl;
+      leads = finish_goes s.jobs s.whole s.tick s.tick (slot s.last) s.tasks.now c.args.task s.tick (omega (arith, c.requires.0, s.few)) (slot_same s.last c.args.task (sym c.ne.ensures ∙ c.if-ne.false));
+    }

@@ -1,16 +1,21 @@
 -- The answer case by case: tests over ranges, whether a sheet is accepted, and what each test says of the sheets.
-use Rattle.std.specs.Prelude.{◌≡◌, refl, Bool, true, false, not, cond, List, [], ◌∷◌, ℕ, zero, suc, ◌≤◌, ◌<◌, ltb, eqb, length, get_or}
+use Rattle.std.specs.Prelude.{◌≡◌, refl, Bool, true, false, not, cond, List, [], ◌∷◌, ℕ, zero, suc, ◌≤◌, ◌<◌, ◌↔◌, ltb, eqb, length, get_or, All, Option, Some, None, is_some, Err}
 use Rattle.std.proofs.Common.{sym, ◌∙◌, le_refl, arith, lt-ltb, le-ltb, ltb-true, eq-eqb, eqb-true}
 use Rattle.std.proofs.Math.Path.{ap, ap₂}
 use Rattle.std.proofs.lemmas.Bool.{false≢true}
+use Rattle.std.specs.Bool.{Decides}
+use Rattle.std.proofs.lemmas.Bool.Decides.{Decides-eqb}
+use Rattle.std.proofs.lemmas.Slice.Eq.{slice_eq-Decides}
+use lib.Pointwise.{pointwise}
+use Rattle.std.proofs.lemmas.List.Elements.{All-from_get_or}
 use Rattle.std.proofs.Math.Decide.{dec_lt}
 use Rattle.arith.specs.Ranges.{least}
 use Rattle.arith.specs.RangeLaws.{below_suc, least_within, least_passes, least_first}
 use Rattle.theory.specs.Model.Schedule.{none, period, budget, rank, Slot, idle, busy}
 use Rattle.theory.specs.Model.Responses.{hyperperiod, all_jobs, idle_ticks}
 use Rattle.answers.specs.declared.Refusal.{Refusal}
-use Rattle.answers.specs.Answers.{given, fine, after, refusal}
-use Rattle.answers.specs.AnswerLaws.{after_given}
+use Rattle.answers.specs.Answers.{Answer, given, refused, fine, after, also, refusal}
+use Rattle.answers.specs.AnswerLaws.{refused_given, after_given}
 use Rattle.sheet.specs.declared.Sheet.{Sheet}
 use Rattle.sheet.specs.Sound.{Sound}
 use Rattle.sheet.specs.SoundLaws.{judged_sound}
@@ -21,19 +26,18 @@ use Rattle.schedule.specs.declared.answer.Size.{Size}
 use Rattle.schedule.specs.Calls.{most_jobs, sizes_of, responses_of}
 use Rattle.schedule.specs.CallLaws.{sizes_given}
 use Rattle.schedule.specs.Results.{responses_given, given_responses}
-use Rattle.recurrence.specs.Calls.{passing_greatest, quick_of}
-use Rattle.recurrence.specs.CallLaws.{quick_fits, quick_passing_task}
+use Rattle.recurrence.specs.declared.answer.Bounds.{Bounds}
+use Rattle.recurrence.specs.declared.answer.QuickBound.{QuickBound}
+use Rattle.recurrence.specs.Calls.{passing_greatest, quick_of, quick_bound_of, responses_in}
+use Rattle.recurrence.specs.CallLaws.{quick_fits, quick_passing_task, given_bound}
 use Rattle.recurrence.specs.Results.{given_accepted}
 use Rattle.chain.specs.QuickResults.{quick_late_table}
 use Rattle.lower.specs.declared.answer.Difference.{Difference}
 use Rattle.lower.specs.declared.answer.Difference.TheVariants.{OldOnly, NewOnly, Period, Budget, Rank}
-use Rattle.lower.specs.declared.answer.Way.{Way}
-use Rattle.lower.specs.declared.answer.Way.TheVariants.{Clear, Blocked}
 use Rattle.lower.specs.declared.answer.Which.TheVariants.{Old, New}
-use Rattle.lower.specs.declared.answer.Comparison.TheVariants.{Refused}
+use Rattle.lower.specs.declared.answer.Obstacle.TheVariants.{Refused}
 use Rattle.lower.specs.Below.{BelowChain, HoldsSame}
-use Rattle.lower.specs.Calls.{acceptance, every, same_entries, below, counts, difference_at, way_at, blocked, beside, chains_compared, compare_of, told_comparison}
-use Rattle.lower.specs.Conditions.{ChainOn}
+use Rattle.lower.specs.Calls.{acceptance, every, same_entries, below, counts, difference_at, way_at, beside, chains_compared, compare_of, told_comparison}
 
 -- ---- tests over ranges
 
@@ -50,13 +54,6 @@ pub each_every : (n : ℕ) (test : ℕ → Bool) → ((j : ℕ) → j < n → te
 unfolding every
 each_every zero test h = refl
 each_every (suc n) test h = rw (each_every n test (λ j l. h j (omega arith))) (h n (omega arith))
-
-pub every_fails : (n : ℕ) (test : ℕ → Bool) (j : ℕ) → j < n → test j ≡ false → every n test ≡ false
-every_fails n test j l e = go (every n test) refl
-  where
-    go : (b : Bool) → every n test ≡ b → every n test ≡ false
-    go true q = absurd (false≢true (sym e ∙ every_each n test q j l))
-    go false q = q
 
 -- The least number that passes is the one before which none does.
 pub least_is : (n : ℕ) (test : ℕ → Bool) (i : ℕ) → i < n → test i ≡ true → ((j : ℕ) → j < i → test j ≡ false) → least n test ≡ i
@@ -86,11 +83,10 @@ none_least n test l j h = go (test j) refl
 pub one_known : (s : Sheet) → Sound s → lacks s 1 ≡ fine
 one_known s sound = number_known s 1 (le_refl _) (omega (arith, chain_count_lem _ sound, sound.chains_least))
 
-pub one_chain : {s : Sheet} → Sound s → length (chain_at s 1).entries ≡ 16 → ChainOn s (chain_of s 1)
-one_chain {s} sound whole = record {
-  some = omega (arith, chain_length _ sound 1 (one_known _ sound) whole, sound.length_least 0 (chain_place _ sound 1 (one_known _ sound)));
-  entry_below = λ e l. omega (arith, entry_listed _ sound 1 (one_known _ sound) e l, tasks_length _ sound);
-}
+-- They stand in sixteen places, of which it takes at least one.
+pub one_some : (s : Sheet) → Sound s → length (chain_at s 1).entries ≡ 16 → 0 < length (chain_of s 1)
+one_some s sound whole =
+    omega (arith, chain_length _ sound 1 (one_known _ sound) whole, sound.length_least 0 (chain_place _ sound 1 (one_known _ sound)))
 
 module _ (s : Sheet) where
   -- H and J are judged first,
@@ -130,17 +126,35 @@ module _ (s : Sheet) where
           ap (λ a. after a (λ totals. fine)) (quick_late_table s 1 most_jobs sized (omega (arith, z.jobs_are, z.jobs_most)) e)
           ∙ sym (ap (λ a. after a (λ bounds. fine)) e)
 
+  -- So it is accepted where both calls answer,
+  pub accept_fine : {size : Size} (q : QuickBound) → given size ≡ sizes_of s → given q ≡ quick_bound_of s 1 → acceptance s ≡ fine
+  accept_fine q sized e = accept_late (sym sized) ∙ ap (λ a. after a (λ bounds. fine)) (given_bound s 1 q e).0
+
+  -- and is refused as the first that does not.
+  pub sizes_refused : (r : Refusal) → refusal r ≡ sizes_of s → refusal r ≡ also (acceptance s) (given s)
+  sizes_refused r e = sym (ap (λ j. also j (given s)) (accept_sizes r (sym e)))
+
+  pub bound_refused : {size : Size} (r : Refusal) → given size ≡ sizes_of s → refusal r ≡ quick_bound_of s 1 → refusal r ≡ also (acceptance s) (given s)
+  bound_refused r sized e = sym (ap (λ j. also j (given s)) (accept_late (sym sized) ∙ ap (λ a. after a (λ bounds. fine)) (of (quick_of s 1) e)))
+    where
+      with_responses : Bounds → Answer QuickBound
+      with_responses b = given (record { bounds = b; responses = responses_in s })
+
+      of : (a : Answer Bounds) → refusal r ≡ after a with_responses → a ≡ refusal r
+      of (given b) e = refused_given e
+      of (refused n vs) e = cc
+
 pub accepted_sound : (s : Sheet) → acceptance s ≡ fine → Sound s
 accepted_sound s e = judged_sound s (responses_given s most_jobs (after_given (responses_of s most_jobs) _ e).1).judged_fine
 
 -- ---- the judgements in their order
 
 module _ (old new : Sheet) where
-  pub compare_old : (r : Refusal) → acceptance old ≡ refusal r → compare_of old new ≡ told_comparison (Refused Old r)
+  pub compare_old : (r : Refusal) → acceptance old ≡ refusal r → compare_of old new ≡ told_comparison (Err (Refused Old r))
   unfolding compare_of
   compare_old r e = ap (λ j. beside Old j (beside New (acceptance new) (chains_compared old new))) e
 
-  pub compare_new : (r : Refusal) → acceptance old ≡ fine → acceptance new ≡ refusal r → compare_of old new ≡ told_comparison (Refused New r)
+  pub compare_new : (r : Refusal) → acceptance old ≡ fine → acceptance new ≡ refusal r → compare_of old new ≡ told_comparison (Err (Refused New r))
   unfolding compare_of
   compare_new r e q = ap₂ (λ j k. beside Old j (beside New k (chains_compared old new))) e q
 
@@ -172,9 +186,44 @@ pub equal_same_entries : (xs ys : List ℕ) → xs ≡ ys → same_entries xs ys
 equal_same_entries xs ys e =
     rw (eq-eqb (length xs) (length ys) (ap length e)) (each_every (length xs) _ (λ k l. eq-eqb (get_or xs k 0) (get_or ys k 0) (ap (λ zs. get_or zs k 0) e)))
 
+-- as the library's test of two slices says it
+pub same_is : (xs ys : List ℕ) (r : Bool) → r ≡ pointwise eqb xs ys → r ≡ same_entries xs ys
+same_is xs ys r e = go r (slice_eq-Decides Decides-eqb xs ys r e) (same_entries xs ys) refl
+  where
+    go : (r : Bool) → Decides r (xs ≡ ys) → (b : Bool) → same_entries xs ys ≡ b → r ≡ same_entries xs ys
+    go true d b q = sym (equal_same_entries xs ys (d.0 refl))
+    go false d true q = absurd (false≢true (d.1 (same_entries_equal xs ys q)))
+    go false d false q = sym q
+
 -- ---- an index that counts
 
+-- Each task of chain one outranks task i, by the ranks that stand in the places.
+module _ (s : Sheet) (ok : Sound s) (whole : length (chain_at s 1).entries ≡ 16) (i : ℕ) (l : i < s.count) where
+  outranks_at : (place : ℕ) → place < length (chain_of s 1)
+      → ltb (rank (tasks_of s) i) (rank (tasks_of s) (get_or (chain_of s 1) place 0)) ≡ ltb (rank s.tasks i) (rank s.tasks (get_or (chain_of s 1) place 0))
+  outranks_at place m =
+      ap₂ ltb (rank_at_lem s ok i l) (rank_at_lem s ok (get_or (chain_of s 1) place 0) (omega (arith, entry_listed _ ok 1 (one_known _ ok) place m, tasks_length _ ok)))
+
+  places : suc (length (rest_of (chain_of s 1))) ≡ length (chain_of s 1)
+  places = chain_places (chain_of s 1) (one_some s ok whole)
+
+  pub below_is : (b : Bool) → (b ≡ true) ↔ All (λ entry. rank s.tasks i < rank s.tasks entry) (chain_of s 1) → b ≡ below (tasks_of s) (chain_of s 1) i
+  below_is true says =
+      sym (each_every (suc (length (rest_of (chain_of s 1)))) _ (λ place m.
+      let known : place < length (chain_of s 1) = omega (arith, places) in
+      outranks_at place known ∙ lt-ltb _ _ (says.0 refl place 0 known)))
+  below_is false says = go (below (tasks_of s) (chain_of s 1) i) refl
+    where
+      go : (b : Bool) → below (tasks_of s) (chain_of s 1) i ≡ b → false ≡ b
+      go true q = says.1 (All-from_get_or (λ entry. rank s.tasks i < rank s.tasks entry) (chain_of s 1) 0 (λ place m.
+          ltb-true _ _ (sym (outranks_at place m) ∙ every_each (suc (length (rest_of (chain_of s 1)))) _ q place (omega (arith, places)))))
+      go false q = refl
+
 module _ (s : Sheet) (i : ℕ) where
+  -- It counts if it is not below.
+  pub counts_is : i < s.count → {b : Bool} → b ≡ below (tasks_of s) (chain_of s 1) i → not b ≡ counts s i
+  counts_is l e = rw (lt-ltb i s.count l) (ap not e)
+
   below_chain : below (tasks_of s) (chain_of s 1) i ≡ true → BelowChain s i
   below_chain q e l = ltb-true _ _ (every_each (suc (length (rest_of (chain_of s 1)))) _ q e (omega arith))
 
@@ -205,7 +254,7 @@ pub difference_fields : (old new : Sheet) → Sound old → Sound new → (i : �
     → eqb (get_or old.tasks i none).period (get_or new.tasks i none).period ≡ b
     → eqb (get_or old.tasks i none).budget (get_or new.tasks i none).budget ≡ c
     → eqb (get_or old.tasks i none).rank (get_or new.tasks i none).rank ≡ d
-    → difference_at old new i ≡ cond b (cond c (cond d Clear (Blocked Rank)) (Blocked Budget)) (Blocked Period)
+    → difference_at old new i ≡ cond b (cond c (cond d None (Some Rank)) (Some Budget)) (Some Period)
 difference_fields old new ok ok' i l m p q r = rw (
   lt-ltb i old.count l,
   lt-ltb i new.count m,
@@ -220,12 +269,12 @@ difference_fields old new ok ok' i l m p q r = rw (
   r,
 )
 
-clear_next : (b : Bool) (w : Way) (d : Difference) → cond b w (Blocked d) ≡ Clear → (b ≡ true) × (w ≡ Clear)
+clear_next : (b : Bool) (w : Option Difference) (d : Difference) → cond b w (Some d) ≡ None → (b ≡ true) × (w ≡ None)
 clear_next true w d e = (refl, e)
-clear_next false w d e = absurd (false≢true (sym (ap blocked e)))
+clear_next false w d e = absurd (false≢true (sym (ap is_some e)))
 
 module _ (old new : Sheet) (i : ℕ) where
-  pub clear_holds : difference_at old new i ≡ Clear → HoldsSame old new i
+  pub clear_holds : difference_at old new i ≡ None → HoldsSame old new i
   clear_holds e =
       let on_old = clear_next (ltb i old.count) _ NewOnly e in
       let on_new = clear_next (ltb i new.count) _ OldOnly on_old.1 in
@@ -240,7 +289,7 @@ module _ (old new : Sheet) (i : ℕ) where
         same_rank = eqb-true _ _ ranks.0;
       }
 
-  pub holds_clear : HoldsSame old new i → difference_at old new i ≡ Clear
+  pub holds_clear : HoldsSame old new i → difference_at old new i ≡ None
   holds_clear h = rw (
     lt-ltb i old.count h.on_old,
     lt-ltb i new.count h.on_new,
@@ -250,25 +299,25 @@ module _ (old new : Sheet) (i : ℕ) where
   )
 
   -- Nothing stands in the way at an index exactly when it holds the same, if it counts on either sheet.
-  pub clear_way : way_at old new i ≡ Clear → (counts old i ≡ true → HoldsSame old new i) × (counts new i ≡ true → HoldsSame old new i)
-  clear_way e = ((λ c. clear_holds (sym (ap (λ b. cond b (difference_at old new i) (cond (counts new i) (difference_at old new i) Clear)) c) ∙ e)), (λ c. go (counts old i) c e))
+  pub clear_way : way_at old new i ≡ None → (counts old i ≡ true → HoldsSame old new i) × (counts new i ≡ true → HoldsSame old new i)
+  clear_way e = ((λ c. clear_holds (sym (ap (λ b. cond b (difference_at old new i) (cond (counts new i) (difference_at old new i) None)) c) ∙ e)), (λ c. go (counts old i) c e))
     where
-      go : (b : Bool) → counts new i ≡ true → cond b (difference_at old new i) (cond (counts new i) (difference_at old new i) Clear) ≡ Clear → HoldsSame old new i
+      go : (b : Bool) → counts new i ≡ true → cond b (difference_at old new i) (cond (counts new i) (difference_at old new i) None) ≡ None → HoldsSame old new i
       go true c h = clear_holds h
-      go false c h = clear_holds (sym (ap (λ b. cond b (difference_at old new i) Clear) c) ∙ h)
+      go false c h = clear_holds (sym (ap (λ b. cond b (difference_at old new i) None) c) ∙ h)
 
-  pub way_clear : (counts old i ≡ true → HoldsSame old new i) → (counts new i ≡ true → HoldsSame old new i) → way_at old new i ≡ Clear
+  pub way_clear : (counts old i ≡ true → HoldsSame old new i) → (counts new i ≡ true → HoldsSame old new i) → way_at old new i ≡ None
   way_clear first second = go (counts old i) refl (counts new i) refl
     where
-      go : (b : Bool) → counts old i ≡ b → (c : Bool) → counts new i ≡ c → cond b (difference_at old new i) (cond c (difference_at old new i) Clear) ≡ Clear
+      go : (b : Bool) → counts old i ≡ b → (c : Bool) → counts new i ≡ c → cond b (difference_at old new i) (cond c (difference_at old new i) None) ≡ None
       go true p c q = holds_clear (first p)
       go false p true q = holds_clear (second q)
       go false p false q = refl
 
-pub not_blocked : (w : Way) → blocked w ≡ false → w ≡ Clear
-not_blocked Clear e = refl
-not_blocked (Blocked d) e = absurd (false≢true (sym e))
+pub not_blocked : (w : Option Difference) → is_some w ≡ false → w ≡ None
+not_blocked None e = refl
+not_blocked (Some d) e = absurd (false≢true (sym e))
 
 -- No sheet has a task past the sixteen places.
-pub way_past : (old new : Sheet) → Sound old → Sound new → (i : ℕ) → 16 ≤ i → way_at old new i ≡ Clear
+pub way_past : (old new : Sheet) → Sound old → Sound new → (i : ℕ) → 16 ≤ i → way_at old new i ≡ None
 way_past old new ok ok' i l = rw (past_counts old i (omega (arith, ok.count_most)), past_counts new i (omega (arith, ok'.count_most)))

@@ -1,5 +1,5 @@
 -- What `compare` answers: the condition of `Below` as a test, with the first that stands in its way. Quotations are from document 02, P10.
-use Rattle.std.specs.Prelude.{Bool, true, false, not, cond, List, ℕ, zero, suc, ltb, eqb, length, get_or}
+use Rattle.std.specs.Prelude.{Bool, true, false, not, cond, List, ℕ, zero, suc, ltb, eqb, length, get_or, Option, Some, None, is_some, Result, Ok, Err}
 use Rattle.arith.specs.Ranges.{least}
 use Rattle.theory.specs.declared.Task.{Task}
 use Rattle.theory.specs.Model.Schedule.{period, budget, rank}
@@ -11,10 +11,8 @@ use Rattle.lower.specs.declared.answer.Which.{Which}
 use Rattle.lower.specs.declared.answer.Which.TheVariants.{Old, New}
 use Rattle.lower.specs.declared.answer.Difference.{Difference}
 use Rattle.lower.specs.declared.answer.Difference.TheVariants.{OldOnly, NewOnly, Period, Budget, Rank}
-use Rattle.lower.specs.declared.answer.Way.{Way}
-use Rattle.lower.specs.declared.answer.Way.TheVariants.{Clear, Blocked}
-use Rattle.lower.specs.declared.answer.Comparison.{Comparison}
-use Rattle.lower.specs.declared.answer.Comparison.TheVariants.{Applies, Refused, Edition, Chain as OtherChain, Task as OtherTask}
+use Rattle.lower.specs.declared.answer.Obstacle.{Obstacle}
+use Rattle.lower.specs.declared.answer.Obstacle.TheVariants.{Refused, Edition, Chain as OtherChain, Task as OtherTask}
 
 -- "accepted": what the full calculation refuses where its table is never too small, so for a field, with 10, 11 or 15.
 abbrev pub acceptance : Sheet → Judgement
@@ -37,8 +35,8 @@ below ts chain i = every (suc (length (rest_of chain))) (λ place. ltb (rank ts 
 abbrev pub counts : Sheet → ℕ → Bool
 counts s i = cond (ltb i s.count) (not (below (tasks_of s) (chain_of s 1) i)) false
 
--- In what index i does not hold "the same period, budget and rank on both": the first of these.
-abbrev pub difference_at : Sheet → Sheet → ℕ → Way
+-- In what index i does not hold "the same period, budget and rank on both": the first of these, if there is one.
+abbrev pub difference_at : Sheet → Sheet → ℕ → Option Difference
 difference_at old new i =
     let ts = tasks_of old in
     let us = tasks_of new in
@@ -46,19 +44,15 @@ difference_at old new i =
     (cond (ltb i new.count)
     (cond (eqb (period ts i) (period us i))
     (cond (eqb (budget ts i) (budget us i))
-    (cond (eqb (rank ts i) (rank us i)) Clear (Blocked Rank))
-    (Blocked Budget))
-    (Blocked Period))
-    (Blocked OldOnly))
-    (Blocked NewOnly)
+    (cond (eqb (rank ts i) (rank us i)) None (Some Rank))
+    (Some Budget))
+    (Some Period))
+    (Some OldOnly))
+    (Some NewOnly)
 
 -- Only an index that counts on "either sheet" can stand in the way.
-abbrev pub way_at : Sheet → Sheet → ℕ → Way
-way_at old new i = cond (counts old i) (difference_at old new i) (cond (counts new i) (difference_at old new i) Clear)
-
-abbrev pub blocked : Way → Bool
-blocked Clear = false
-blocked (Blocked difference) = true
+abbrev pub way_at : Sheet → Sheet → ℕ → Option Difference
+way_at old new i = cond (counts old i) (difference_at old new i) (cond (counts new i) (difference_at old new i) None)
 
 -- What is found: nothing in the way; a sheet that is refused, or is not of edition 2; another chain one; or an index and what differs there.
 pub data Finding : Type 0 where
@@ -73,13 +67,13 @@ abbrev pub beside : Which → Judgement → Finding → Finding
 beside which (given u) next = next
 beside which (refused number values) next = refused_of which number values
 
-abbrev pub standing : ℕ → Way → Finding
-standing i Clear = nothing
-standing i (Blocked difference) = task i difference
+abbrev pub standing : ℕ → Option Difference → Finding
+standing i None = nothing
+standing i (Some difference) = task i difference
 
 -- The least index that stands in the way, of the sixteen; the one after them does not.
 abbrev pub first_blocked : Sheet → Sheet → ℕ
-first_blocked old new = least 16 (λ i. blocked (way_at old new i))
+first_blocked old new = least 16 (λ i. is_some (way_at old new i))
 
 abbrev pub tasks_compared : Sheet → Sheet → Finding
 tasks_compared old new = standing (first_blocked old new) (way_at old new (first_blocked old new))
@@ -97,9 +91,9 @@ unfoldable pub compare_of : Sheet → Sheet → Finding
 compare_of old new = beside Old (acceptance old) (beside New (acceptance new) (chains_compared old new))
 
 -- The finding for each case of the code's enum.
-abbrev pub told_comparison : Comparison → Finding
-told_comparison Applies = nothing
-told_comparison (Refused which r) = refused_of which (number_in r) (values_in r)
-told_comparison (Edition which) = edition which
-told_comparison OtherChain = chain
-told_comparison (OtherTask i difference) = task i difference
+abbrev pub told_comparison : Result Unit Obstacle → Finding
+told_comparison (Ok u) = nothing
+told_comparison (Err (Refused which r)) = refused_of which (number_in r) (values_in r)
+told_comparison (Err (Edition which)) = edition which
+told_comparison (Err OtherChain) = chain
+told_comparison (Err (OtherTask i difference)) = task i difference

@@ -1,8 +1,13 @@
 -- What the functions under the call promise each other.
-use Rattle.std.specs.Prelude.{ℕ, ◌<◌, List, length, get_or}
+use Rattle.std.specs.Prelude.{◌≡◌}
+use Rattle.answers.specs.declared.Refusal.{Refusal}
+use Rattle.answers.specs.Answers.{refusal}
 use Rattle.sheet.specs.declared.Sheet.{Sheet}
+use Rattle.lower.specs.declared.answer.Which.{Which}
+use Rattle.lower.specs.declared.answer.Obstacle.{Obstacle}
+use Rattle.lower.specs.declared.answer.Obstacle.TheVariants.{Refused}
+use Rattle.lower.specs.Calls.{acceptance}
 
--- A chain of tasks of the sheet.
-pub record ChainOn (s : Sheet) (chain : List ℕ) : Type 0 where
-  pub some : 0 < length chain
-  pub entry_below : (place : ℕ) → place < length chain → get_or chain place 0 < s.count
+-- That stands in the way: the refusal of the sheet.
+abbrev pub IsRefused : Sheet → Which → Obstacle → Type 0
+IsRefused s which o = (r : Refusal) × (o ≡ Refused which r) × (acceptance s ≡ refusal r)

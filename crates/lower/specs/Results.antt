@@ -1,6 +1,6 @@
 -- What `compare` comes to: it finds nothing in the way exactly when both sheets are accepted, of edition 2, and differ only below chain one;
 -- and then what is answered of chain one is the same on both (document 02, P10).
-use Rattle.std.specs.Prelude.{◌≡◌, Bool, true, false, cond, ℕ, ◌+◌, ◌-◌, ◌≤◌, ◌<◌, eqb, get_or}
+use Rattle.std.specs.Prelude.{◌≡◌, Bool, true, false, cond, ℕ, ◌+◌, ◌-◌, ◌≤◌, ◌<◌, eqb, get_or, Option, Some, None, is_some}
 use Rattle.std.proofs.Math.Path.{refl, ap}
 use Rattle.std.proofs.Common.{sym, ap₂, ◌∙◌, arith}
 use Rattle.std.proofs.Math.Decide.{dec_lt}
@@ -33,10 +33,9 @@ use Rattle.chain.specs.CallLaws.{FiguresGiven, figures_known, figures_given}
 use Rattle.chain.specs.Results.{FiguresAnswers}
 use Rattle.lower.specs.declared.answer.Which.{Which}
 use Rattle.lower.specs.declared.answer.Which.TheVariants.{Old, New}
-use Rattle.lower.specs.declared.answer.Way.{Way}
-use Rattle.lower.specs.declared.answer.Way.TheVariants.{Clear, Blocked}
+use Rattle.lower.specs.declared.answer.Difference.{Difference}
 use Rattle.lower.specs.Below.{chain_task, last_place, DifferBelow}
-use Rattle.lower.specs.Calls.{acceptance, same_entries, way_at, blocked, Finding, nothing, refused_of, edition, chain, task, beside, standing, first_blocked, tasks_compared, compare_of}
+use Rattle.lower.specs.Calls.{acceptance, same_entries, way_at, Finding, nothing, refused_of, edition, chain, task, beside, standing, first_blocked, tasks_compared, compare_of}
 use Rattle.lower.specs.CallLaws.{accepted_sound, least_none, none_least, one_known, same_entries_equal, equal_same_entries, counts_not_below, not_below_counts, clear_way, way_clear, not_blocked, way_past}
 use Rattle.lower.specs.ApartLaws.{task_same, task_apart, figures_same, first_period_same}
 
@@ -70,20 +69,20 @@ cond_nothing : (b : Bool) (f g : Finding) → is_nothing g ≡ false → cond b 
 cond_nothing true f g q e = (refl, e)
 cond_nothing false f g q e = other q e
 
-standing_nothing : (i : ℕ) (w : Way) → standing i w ≡ nothing → w ≡ Clear
-standing_nothing i Clear e = refl
-standing_nothing i (Blocked d) e = other refl e
+standing_nothing : (i : ℕ) (w : Option Difference) → standing i w ≡ nothing → w ≡ None
+standing_nothing i None e = refl
+standing_nothing i (Some d) e = other refl e
 
 module _ (old new : Sheet) where
-  all_clear : tasks_compared old new ≡ nothing → (i : ℕ) → i < 16 → way_at old new i ≡ Clear
+  all_clear : tasks_compared old new ≡ nothing → (i : ℕ) → i < 16 → way_at old new i ≡ None
   all_clear e i l = go (dec_lt (first_blocked old new) 16)
     where
       test : ℕ → Bool
-      test j = blocked (way_at old new j)
+      test j = is_some (way_at old new j)
 
-      go : Dec (first_blocked old new < 16) → way_at old new i ≡ Clear
+      go : Dec (first_blocked old new < 16) → way_at old new i ≡ None
       go (yes h) =
-          let z : ◌≡◌ {A = Bool} false true = sym (ap blocked (standing_nothing (first_blocked old new) (way_at old new (first_blocked old new)) e)) ∙ least_passes 16 test h in
+          let z : ◌≡◌ {A = Bool} false true = sym (ap is_some (standing_nothing (first_blocked old new) (way_at old new (first_blocked old new)) e)) ∙ least_passes 16 test h in
           let w : ◌≡◌ {A = ℕ} 0 1 = cc in absurd (omega arith)
       go (no h) = not_blocked (way_at old new i) (none_least 16 test (omega arith) i l)
 
@@ -120,13 +119,13 @@ module _ (old new : Sheet) where
     equal_same_entries (chain_of old 1) (chain_of new 1) c.differ_below.same_chain,
   ) (ap (λ i. standing i (way_at old new i)) none_blocked ∙ ap (standing 16) (way_past old new (accepted_sound old c.old_accepted) (accepted_sound new c.new_accepted) 16 (omega arith)))
     where
-      clear : (i : ℕ) → way_at old new i ≡ Clear
+      clear : (i : ℕ) → way_at old new i ≡ None
       clear i = way_clear old new i
           (λ q. let x = counts_not_below old i q in c.differ_below.old_tasks i x.0 x.1)
           (λ q. let x = counts_not_below new i q in c.differ_below.new_tasks i x.0 x.1)
 
       none_blocked : first_blocked old new ≡ 16
-      none_blocked = least_none 16 (λ i. blocked (way_at old new i)) (λ i l. ap blocked (clear i))
+      none_blocked = least_none 16 (λ i. is_some (way_at old new i)) (λ i l. ap is_some (clear i))
 
 -- ---- the theorem
 

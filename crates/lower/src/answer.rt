@@ -1,15 +1,16 @@
-// What the call answers.
+// What stands in the way of two sheets, and the words for it.
 use answers::Refusal;
+use std::fmt;
 
 // Of the two sheets, the one that was and the one that is to be.
-#[derive(Clone, Copy)]
+#[derive(Clone, Copy, PartialEq, Eq)]
 pub enum Which {
     Old,
     New,
 }
 
 // In what the task of an index differs: it stands on one sheet only, or has another period, budget or rank.
-#[derive(Clone, Copy)]
+#[derive(Clone, Copy, PartialEq, Eq)]
 pub enum Difference {
     OldOnly,
     NewOnly,
@@ -18,18 +19,43 @@ pub enum Difference {
     Rank,
 }
 
-// What an index has against it.
-#[derive(Clone, Copy)]
-pub enum Way {
-    Clear,
-    Blocked(Difference),
-}
-
-#[derive(Clone, Copy)]
-pub enum Comparison {
-    Applies,
+// One of the sheets is refused or is not of edition 2, chain one is another, or a task that counts differs.
+#[derive(Clone, Copy, PartialEq, Eq)]
+pub enum Obstacle {
     Refused(Which, Refusal),
     Edition(Which),
     Chain,
     Task(u8, Difference),
+}
+
+impl fmt::Display for Which {
+    fn fmt<W: fmt::Write>(&self, f: &mut fmt::Formatter<W>) -> fmt::Result {
+        match self {
+            Which::Old => write!(f, "old"),
+            Which::New => write!(f, "new"),
+        }
+    }
+}
+
+impl fmt::Display for Difference {
+    fn fmt<W: fmt::Write>(&self, f: &mut fmt::Formatter<W>) -> fmt::Result {
+        match self {
+            Difference::OldOnly => write!(f, "old only"),
+            Difference::NewOnly => write!(f, "new only"),
+            Difference::Period => write!(f, "period"),
+            Difference::Budget => write!(f, "budget"),
+            Difference::Rank => write!(f, "rank"),
+        }
+    }
+}
+
+impl fmt::Display for Obstacle {
+    fn fmt<W: fmt::Write>(&self, f: &mut fmt::Formatter<W>) -> fmt::Result {
+        match self {
+            Obstacle::Refused(which, refusal) => write!(f, "{which} {refusal}"),
+            Obstacle::Edition(which) => write!(f, "differs edition {which}"),
+            Obstacle::Chain => write!(f, "differs chain"),
+            Obstacle::Task(i, difference) => write!(f, "differs task {i} {difference}"),
+        }
+    }
 }

@@ -5,207 +5,137 @@
 
 mod answer;
 
-ghost use Rattle.std.specs.Prelude.{◌≡◌, ◌<◌, length};
-ghost use Rattle.answers.specs.Answers.{told};
-ghost use Rattle.sheet.specs.Sound.{Sound};
-ghost use Rattle.sheet.specs.Tasks.{tasks_of, chain_at, chain_of};
-ghost use Rattle.lower.specs.Calls.{acceptance, same_entries, below, counts, difference_at, way_at, standing, tasks_compared, chains_compared, told_comparison};
-ghost use Rattle.lower.specs.Conditions.{ChainOn};
+ghost use Rattle.std.specs.Result.{IfOk, IfErr};
+ghost use Rattle.std.specs.Prelude.{◌≡◌, ◌≤◌, ◌<◌, ◌↔◌, All, IsTrue, length, take};
+ghost use Rattle.theory.specs.Model.Schedule.{rank};
+ghost use Rattle.answers.specs.Answers.{given, fine, after, also, told};
+ghost use Rattle.sheet.specs.Tasks.{tasks_of, chain_of};
+ghost use Rattle.lower.specs.Calls.{acceptance, same_entries, counts, difference_at, way_at, tasks_compared, chains_compared, told_comparison};
+ghost use Rattle.lower.specs.Conditions.{IsRefused};
 ghost use Rattle.lower.specs.Promises.{ComparePromise};
 
-use answer::Way;
-pub use answer::{Comparison, Difference, Which};
-use answers::Verdict;
-use recurrence::Quick;
-use schedule::Sizes;
+pub use answer::{Difference, Obstacle, Which};
+use answers::Refusal;
+use sheet::sound::Judged;
 use sheet::{Chain, Sheet};
 
-// Fine for a sheet that the full calculation takes, or its refusal. The task that 15 names is the same without a table.
-fn accepted(s: Sheet) -> Verdict
-    ensures { told result ≡ acceptance s }
+// A sheet that the full calculation takes, or its refusal. The task that 15 names is the same without a table.
+fn accepted(s: Sheet) -> Result<Judged, Refusal>
+    ensures { after (told result) (λ x. given x.sheet) ≡ also (acceptance s) (given s) }
 {
-    let size = schedule::sizes(s);
-    let Sizes::Of(_) = size else {
-        return Verdict::No(schedule::sizes_refusal(size));
-    };
-    let bound = recurrence::bound(s, 1);
-    let quick = bound.answer;
-    let Quick::Of(_) = quick else {
-        return Verdict::No(recurrence::bound_refusal(quick));
-    };
-    Verdict::Fine
+    schedule::sizes(s)?;
+    recurrence::bound(s, 1)?;
+    Ok(Judged { sheet: s })
 }
 
-fn chain_one(s: Sheet) -> Chain
-    ensures { (result ≡ chain_at s 1) × (length result.entries ≡ 16) }
+// "the same chain one": length and entries
+fn same_chain(old: Judged, new: Judged) -> bool
+    ensures { result ≡ same_entries (chain_of old.sheet 1) (chain_of new.sheet 1) }
 {
-    s.chains[0]
-}
-
-// The same length and entries.
-fn same_entries(a: &[u8], b: &[u8]) -> bool
-    ensures { result ≡ same_entries a.now b.now }
-{
-    if a.len() != b.len() {
-        return false;
-    }
-    let mut j = 0usize;
-    while j < a.len() {
-        if a[j] != b[j] {
-            return false;
-        }
-        j += 1;
-    }
-    true
-}
-
-// "the same chain one"
-fn same_chain(old: Sheet, new: Sheet) -> bool
-    requires sound { Sound old }
-    requires sound_2 { Sound new }
-    ensures { result ≡ same_entries (chain_of old 1) (chain_of new 1) }
-{
-    let a = chain_one(old);
-    let b = chain_one(new);
+    let a = old.sheet.chains[0];
+    let b = new.sheet.chains[0];
     let first = a.entries;
     let second = b.entries;
-    let m = a.length as usize;
-    let n = b.length as usize;
-    same_entries(&first[..m], &second[..n])
+    first[..a.length as usize] == second[..b.length as usize]
 }
 
 // Whether each task of the chain outranks task i.
-fn below_chain(s: Sheet, i: usize, chain: &[u8]) -> bool
-    requires sound { Sound s }
-    requires i_lt_count { (i < s.count) × ChainOn s chain.now }
-    ensures { result ≡ below (tasks_of s) chain.now i }
+fn below_chain(s: Judged, i: u8, chain: Chain) -> bool
+    requires i_bound { i < 16 }
+    requires chain_bound { (chain.length ≤ 16) × All (λ entry. entry < 16) (take chain.length chain.entries) }
+    ensures below { IsTrue result ↔ All (λ entry. rank s.sheet.tasks i < rank s.sheet.tasks entry) (take chain.length chain.entries) }
+    ensures whole { length chain.entries ≡ 16 }
 {
-    let rank = s.tasks[i].rank;
-    let mut e = 0usize;
-    while e < chain.len() {
-        let c = chain[e] as usize;
-        if s.tasks[c].rank <= rank {
-            return false;
-        }
-        e += 1;
-    }
-    true
+    let tasks = s.sheet.tasks;
+    let entries = chain.entries;
+    let rank = tasks[i as usize].rank;
+    entries[..chain.length as usize]
+        .iter()
+        .all(|&entry| rank < tasks[entry as usize].rank)
 }
 
 // Whether the sheet has a task i that is not "ranked below the whole chain" one.
-fn counts(s: Sheet, i: u8) -> bool
-    requires { Sound s }
-    ensures { result ≡ counts s i }
+fn counts(s: Judged, i: u8) -> bool
+    ensures { result ≡ counts s.sheet i }
 {
-    if s.count <= i {
-        return false;
-    }
-    let k = i as usize;
-    let c = chain_one(s);
-    let entries = c.entries;
-    let m = c.length as usize;
-    if below_chain(s, k, &entries[..m]) {
-        return false;
-    }
-    true
+    i < s.sheet.count && !below_chain(s, i, s.sheet.chains[0])
 }
 
 // The first in which index i does not hold "the same period, budget and rank on both".
-fn difference(old: Sheet, new: Sheet, i: u8) -> Way
-    requires sound { Sound old }
-    requires sound_2 { Sound new }
-    ensures { result ≡ difference_at old new i }
+fn difference(old: Judged, new: Judged, i: u8) -> Option<Difference>
+    ensures { result ≡ difference_at old.sheet new.sheet i }
 {
-    if old.count <= i {
-        return Way::Blocked(Difference::NewOnly);
+    if old.sheet.count <= i {
+        return Some(Difference::NewOnly);
     }
-    if new.count <= i {
-        return Way::Blocked(Difference::OldOnly);
+    if new.sheet.count <= i {
+        return Some(Difference::OldOnly);
     }
-    let k = i as usize;
-    if old.tasks[k].period != new.tasks[k].period {
-        return Way::Blocked(Difference::Period);
+    let was = old.sheet.tasks[i as usize];
+    let is = new.sheet.tasks[i as usize];
+    if was.period != is.period {
+        Some(Difference::Period)
+    } else if was.budget != is.budget {
+        Some(Difference::Budget)
+    } else if was.rank != is.rank {
+        Some(Difference::Rank)
+    } else {
+        None
     }
-    if old.tasks[k].budget != new.tasks[k].budget {
-        return Way::Blocked(Difference::Budget);
-    }
-    if old.tasks[k].rank != new.tasks[k].rank {
-        return Way::Blocked(Difference::Rank);
-    }
-    Way::Clear
 }
 
 // "every index whose task on either sheet is not below it"
-fn way_at(old: Sheet, new: Sheet, i: u8) -> Way
-    requires sound { Sound old }
-    requires sound_2 { Sound new }
-    ensures { result ≡ way_at old new i }
+fn way_at(old: Judged, new: Judged, i: u8) -> Option<Difference>
+    ensures { result ≡ way_at old.sheet new.sheet i }
 {
-    if counts(old, i) {
-        return difference(old, new, i);
-    }
-    if counts(new, i) {
-        return difference(old, new, i);
-    }
-    Way::Clear
-}
-
-// What index i has against it, as the answer.
-fn stands(i: u8, way: Way) -> Comparison
-    ensures { told_comparison result ≡ standing i way }
-{
-    match way {
-        Way::Clear => Comparison::Applies,
-        Way::Blocked(found) => Comparison::Task(i, found),
+    if counts(old, i) || counts(new, i) {
+        difference(old, new, i)
+    } else {
+        None
     }
 }
 
 // The first index that stands in the way.
-fn compare_tasks(old: Sheet, new: Sheet) -> Comparison
-    requires sound { Sound old }
-    requires sound_2 { Sound new }
-    ensures { told_comparison result ≡ tasks_compared old new }
+fn compare_tasks(old: Judged, new: Judged) -> Result<(), Obstacle>
+    ensures { told_comparison result ≡ tasks_compared old.sheet new.sheet }
 {
-    let mut i = 0u8;
-    while i < 16 {
-        let way = way_at(old, new, i);
-        let Way::Clear = way else {
-            return stands(i, way);
-        };
-        i += 1;
+    for i in 0..16 {
+        if let Some(found) = way_at(old, new, i) {
+            return Err(Obstacle::Task(i, found));
+        }
     }
-    Comparison::Applies
+    Ok(())
 }
 
 // Two accepted sheets: of edition 2, with the same chain one, and the same in each index that counts.
-fn compare_accepted(old: Sheet, new: Sheet) -> Comparison
-    requires sound { Sound old }
-    requires sound_2 { Sound new }
-    ensures { told_comparison result ≡ chains_compared old new }
+fn compare_accepted(old: Judged, new: Judged) -> Result<(), Obstacle>
+    ensures { told_comparison result ≡ chains_compared old.sheet new.sheet }
 {
-    if old.edition != 2 {
-        return Comparison::Edition(Which::Old);
+    if old.sheet.edition != 2 {
+        return Err(Obstacle::Edition(Which::Old));
     }
-    if new.edition != 2 {
-        return Comparison::Edition(Which::New);
+    if new.sheet.edition != 2 {
+        return Err(Obstacle::Edition(Which::New));
     }
-    if same_chain(old, new) {
-        return compare_tasks(old, new);
+    if !same_chain(old, new) {
+        return Err(Obstacle::Chain);
     }
-    Comparison::Chain
+    compare_tasks(old, new)
+}
+
+// One of the two sheets, accepted, or which it is and its refusal.
+fn taken(which: Which, s: Sheet) -> Result<Judged, Obstacle>
+    ensures ok { IfOk result (λ x. (acceptance s ≡ fine) × (x.sheet ≡ s)) }
+    ensures err { IfErr result (λ o. IsRefused s which o) }
+{
+    accepted(s).map_err(|refusal| Obstacle::Refused(which, refusal))
 }
 
 // Whether two accepted sheets of edition 2 differ only below chain one, or the first that stands in the way.
-pub fn compare(old: Sheet, new: Sheet) -> Comparison
+pub fn compare(old: Sheet, new: Sheet) -> Result<(), Obstacle>
     ensures { ComparePromise old new result }
 {
-    let v = accepted(old);
-    let Verdict::Fine = v else {
-        return Comparison::Refused(Which::Old, answers::refusal_of(v));
-    };
-    let w = accepted(new);
-    let Verdict::Fine = w else {
-        return Comparison::Refused(Which::New, answers::refusal_of(w));
-    };
+    let old = taken(Which::Old, old)?;
+    let new = taken(Which::New, new)?;
     compare_accepted(old, new)
 }

@@ -1,29 +1,23 @@
 -- H and J are judged first, and then what is late, without a table.
-use mathlib.Core.Path.{◌≡◌, sym, ap, ◌∙◌}
-use Rattle.answers.specs.Answers.{fine, after, refusal}
-use Rattle.recurrence.specs.Calls.{quick_of, told_quick, quick_refusal}
-use Rattle.schedule.specs.Calls.{told_size, sizes_refusal}
-use Rattle.lower.specs.Calls.{acceptance}
-use Rattle.lower.specs.CallLaws.{accept_sizes, accept_late}
-use Rattle.lower.proofs.accepted.Goals.{After-bound-bound}
+use Rattle.std.proofs.Common.{sym, ap}
+use Rattle.std.proofs.lemmas.Result.{err_from_is_err_and}
+use Rattle.answers.specs.Answers.{given, also}
+use Rattle.lower.specs.CallLaws.{accept_fine, accepted_sound, sizes_refused, bound_refused}
 use Rattle.lower.proofs.accepted.Goals as goal
 
--- Where H and J are taken the rest is what the call without a table says.
-late : (c : After-bound-bound) → acceptance c.args.s ≡ after (quick_of c.args.s 1) (λ bounds. fine)
-late c = accept_late c.args.s (sym c.sizes-size.ensures ∙ ap told_size c.in-Of.is)
+pub returns-in_err-sizes : goal.returns-in_err-sizes
+returns-in_err-sizes c =
+    let p = err_from_is_err_and c.from_residual.result c.from_residual.ensures.1 in
+    rw (p.1, p.2) (sizes_refused c.args.s c.in_err-sizes.field-0.0 c.in_err-sizes.ensures)
 
-pub returns-in_default : goal.returns-in_default
-returns-in_default c =
-    let is = c.in_default.is in
-    ap (λ x. refusal x) (c.sizes_refusal.ensures ∙ ap sizes_refusal is)
-    ∙ sym (accept_sizes c.args.s c.in_default.field-0 (sym c.sizes-size.ensures ∙ ap told_size is))
+pub returns-in_err-bound : goal.returns-in_err-bound
+returns-in_err-bound c =
+    let p = err_from_is_err_and c.from_residual-in_err-bound.result c.from_residual-in_err-bound.ensures.1 in
+    rw (p.1, p.2) (bound_refused c.args.s c.in_err-bound.field-0.0 c.in_ok-sizes.ensures c.in_err-bound.ensures)
 
-pub returns-in_default-quick : goal.returns-in_default-quick
-returns-in_default-quick c =
-    let is = c.in_default-quick.is in
-    ap (λ x. refusal x) (c.bound_refusal.ensures ∙ ap quick_refusal is)
-    ∙ sym (late (goal.at.returns-in_default-quick c).After-bound-bound ∙ ap (λ a. after a (λ bounds. fine)) (sym c.bound-bound.ensures.0 ∙ ap told_quick is))
+pub invariant_of-result : goal.invariant_of-result
+invariant_of-result c =
+    record { sound = accepted_sound c.args.s (accept_fine c.args.s c.in_ok-bound.field-0 c.in_ok-sizes.ensures c.in_ok-bound.ensures) }
 
 pub returns : goal.returns
-returns c =
-    sym (late (goal.at.returns c).After-bound-bound ∙ ap (λ a. after a (λ bounds. fine)) (sym c.bound-bound.ensures.0 ∙ ap told_quick c.in-Of-quick.is))
+returns c = sym (ap (λ j. also j (given c.args.s)) (accept_fine c.args.s c.in_ok-bound.field-0 c.in_ok-sizes.ensures c.in_ok-bound.ensures))

@@ -2,8 +2,7 @@
 pub mod Numbers
 pub mod Fields
 pub mod Promises
--- What the functions under the calls tell each other, and the laws.
-pub mod Replies
+-- The laws.
 pub mod ReplyLaws
 pub mod FieldLaws
 pub mod SizeLaws

@@ -1,5 +1,6 @@
 -- Answers as a program in C gets them: a number that is returned, and values. Quotations are from document 01.
-use Rattle.std.specs.Prelude.{Bool, true, cond, List, [], ◌∷◌, ◌++◌, map, ℕ, eqb, ℤ, pos}
+use Rattle.std.specs.Prelude.{Bool, true, cond, List, [], ◌∷◌, ◌++◌, map, ℕ, eqb, ℤ, pos, Option, Some, None, Result, Ok, Err}
+use Rattle.answers.specs.declared.Refusal.{Refusal}
 use Rattle.answers.specs.Answers.{Answer, given, refused, after, refusal}
 use Rattle.sheet.specs.declared.Sheet.{Sheet}
 use Rattle.schedule.specs.declared.answer.Totals.{Totals}
@@ -10,12 +11,7 @@ use Rattle.chain.specs.declared.answer.Figure.{Figure}
 use Rattle.chain.specs.declared.answer.Summary.{Summary}
 use Rattle.chain.specs.Calls.{delay_of, margin_of, default_margin_of, figures_of}
 use Rattle.night.specs.declared.answer.Longest.{Longest}
-use Rattle.night.specs.declared.answer.Longest.TheVariants.{Nothing, Delay as LongestDelay}
-use Rattle.night.specs.declared.answer.Break.{Break}
-use Rattle.night.specs.declared.answer.Break.TheVariants.{Nowhere, At}
 use Rattle.night.specs.declared.answer.Replayed.{Replayed}
-use Rattle.night.specs.declared.answer.Replay.{Replay}
-use Rattle.night.specs.declared.answer.Replay.TheVariants.{Of, No}
 use Rattle.bellkettle.specs.declared.Question.{Question}
 use Rattle.bellkettle.specs.declared.Question.TheVariants.{Responses, Delay, Margin, DefaultMargin, Figures}
 
@@ -72,13 +68,13 @@ quick_to number s = in_numbers bounds_numbers (quick_of s number)
 -- ---- the replay of a log (document 02, P6)
 
 -- Whether there is one, 1 or 0, and what it is: zeros where there is none.
-abbrev pub longest_numbers : Longest → List ℤ
-longest_numbers Nothing = pos 0 ∷ pos 0 ∷ pos 0 ∷ []
-longest_numbers (LongestDelay ticks job) = pos 1 ∷ pos ticks ∷ pos job ∷ []
+abbrev pub longest_numbers : Option Longest → List ℤ
+longest_numbers None = pos 0 ∷ pos 0 ∷ pos 0 ∷ []
+longest_numbers (Some l) = pos 1 ∷ pos l.ticks ∷ pos l.job ∷ []
 
-abbrev pub break_numbers : Break → List ℤ
-break_numbers Nowhere = pos 0 ∷ pos 0 ∷ []
-break_numbers (At place) = pos 1 ∷ pos place ∷ []
+abbrev pub break_numbers : Option ℕ → List ℤ
+break_numbers None = pos 0 ∷ pos 0 ∷ []
+break_numbers (Some place) = pos 1 ∷ pos place ∷ []
 
 abbrev pub replayed_numbers : Replayed → List ℤ
 replayed_numbers r = alone r.records ++ alone r.paths ++ longest_numbers r.longest ++ break_numbers r.breaking ++ figure_numbers r.figure
@@ -94,6 +90,6 @@ with_file read (refused number []) = refused number []
 with_file read (refused number (value ∷ values)) = refused number (value ∷ file_of read number ∷ [])
 
 -- What a replay answers of a sheet that was read.
-abbrev pub told_of : Replay → Answer (List ℤ)
-told_of (Of r) = given (replayed_numbers r)
-told_of (No r) = with_file true (refusal r)
+abbrev pub told_of : Result Replayed Refusal → Answer (List ℤ)
+told_of (Ok r) = given (replayed_numbers r)
+told_of (Err r) = with_file true (refusal r)

@@ -1,12 +1,13 @@
 -- What the calls promise: the number that is returned, and what is left in each slice that was lent.
-use Rattle.std.specs.Prelude.{◌≡◌, false, List, ℕ, ℤ, length}
+use Rattle.std.specs.Prelude.{◌≡◌, false, List, ℕ, ℤ, length, Result}
 use Rattle.std.proofs.lemmas.List.Edits.{sets}
+use Rattle.answers.specs.declared.Refusal.{Refusal}
 use Rattle.answers.specs.Answers.{Answer, given, refused, after}
 use Rattle.sheet.specs.declared.Sheet.{Sheet}
 use Rattle.sheet.specs.Calls.{read_of, write_of, buffer_after}
 use Rattle.sheet.specs.Tasks.{tasks_of}
 use Rattle.schedule.specs.Calls.{table_after}
-use Rattle.night.specs.declared.answer.Replay.{Replay}
+use Rattle.night.specs.declared.answer.Replayed.{Replayed}
 use Rattle.night.specs.Promises.{ReplayPromise}
 use Rattle.telltale.specs.declared.Record.{Record}
 use Rattle.telltale.specs.Calls.{stamp_of, record_after}
@@ -66,7 +67,7 @@ SheetWritten edition periods budgets ranks limits lengths entries returned old-v
 -- A log is held to the sheet that was read: what is returned and left is what the replay answers and leaves.
 abbrev pub ReplayOf : Answer Sheet → List ℕ → ℕ → List ℤ → List ℤ → List ℕ → List ℕ → Type 0
 ReplayOf (given s) log returned old-values values old-table table =
-    (answer : Replay) × Returned (told_of answer) returned old-values values × ReplayPromise s log old-table answer table
+    (answer : Result Replayed Refusal) × Returned (told_of answer) returned old-values values × ReplayPromise s log old-table answer table
 ReplayOf (refused number bits) log returned old-values values old-table table =
     Returned (with_file false (refused number bits)) returned old-values values × (table ≡ old-table)
 

@@ -1,5 +1,5 @@
 -- What the returned number tells a program in C: a refusal's number is never 0, so 0 tells that the answer is given.
-use Rattle.std.specs.Prelude.{◌≡◌, refl, ◌↔◌, Bool, true, false, List, [], ◌∷◌, ℕ, ◌≤◌, ltb, ℤ, length}
+use Rattle.std.specs.Prelude.{◌≡◌, refl, ◌↔◌, Bool, true, false, List, [], ◌∷◌, ℕ, ◌≤◌, ltb, ℤ, length, Ok, Err}
 use Rattle.std.proofs.Common.{sym, ap, ◌∙◌, subst, inl, inr, arith}
 use Rattle.answers.specs.declared.Refusal.{Refusal}
 use Rattle.answers.specs.Answers.{Answer, given, refused, after, number_in, values_in, refusal}
@@ -16,7 +16,6 @@ use Rattle.chain.specs.declared.answer.Summary.{Summary}
 use Rattle.clocklog.specs.Format.{log_judged}
 use Rattle.clocklog.specs.NumberLaws.{OfLog, log_numbers}
 use Rattle.night.specs.declared.answer.Replayed.{Replayed}
-use Rattle.night.specs.declared.answer.Replay.TheVariants.{Of, No}
 use Rattle.night.specs.Calls.{chain_one, figures_after, AnswersFor}
 use Rattle.night.specs.CallResults.{ReplayAnswers}
 use Rattle.telltale.specs.declared.Record.{Record}
@@ -114,9 +113,9 @@ module _ (s : Sheet) (log : List ℕ) (room : ℕ) where
 replay_of_zero : (source : Answer Sheet) → Numbered 1 17 source → (log : List ℕ) (returned : ℕ) (old-values values : List ℤ) (old-table table : List ℕ)
     → ReplayOf source log returned old-values values old-table table
     → (returned ≡ 0) ↔ ((s : Sheet) × (r : Replayed) × (source ≡ given s) × ReplayAnswers s log (length old-table) r)
-replay_of_zero (given s) n log returned old-values values old-table table (Of r, p, h) =
+replay_of_zero (given s) n log returned old-values values old-table table (Ok r, p, h) =
     (λ e. (s, r, refl, given_answers s log (length old-table) r (figures_after s log (length old-table)) refl h.0), λ x. p.0)
-replay_of_zero (given s) n log returned old-values values old-table table (No q, p, h) = (
+replay_of_zero (given s) n log returned old-values values old-table table (Err q, p, h) = (
   λ e. absurd (omega (arith, e, p.0, file_number true (number_in q) (values_in q), refused_numbered_one s log (length old-table) q (figures_after s log (length old-table)) refl h.0)),
   λ x. absurd (never_both s log (length old-table) q x.1 (figures_after s log (length old-table)) refl h.0 (subst (λ s'. ReplayAnswers s' log (length old-table) x.1) (back x.2) x.3)),
 )

@@ -3,8 +3,8 @@
 // (specs/Run.antt). That what is shown says the sheet is proved of them (specs/RoundTrip.antt).
 #![tactic(auto)]
 
-ghost use Rattle.std.specs.Prelude.{◌≡◌, cond, List, [], map, ◌++◌, ℕ, ◌+◌, ◌-◌, ◌≤◌, min, length, set, drop, take};
-ghost use Rattle.text.specs.Shown.{numeral, task_line, task_lines, entry_word, entry_words, limit_words, chain_line, chain_lines, chain_count, text_of};
+ghost use Rattle.std.specs.Prelude.{◌≡◌, List, [], map, ◌++◌, ℕ, ◌+◌, ◌≤◌, min, length, take};
+ghost use Rattle.text.specs.Shown.{numeral, task_line, task_lines, entry_words, limit_words, chain_line, chain_lines, chain_count, text_of};
 ghost use Rattle.text.specs.Words.{ends, word, digit, name_byte, every, number, keyword, index, says};
 ghost use Rattle.text.specs.Grammar.{missing, fresh, wanting, with_edition, task_in, with_task, task_more, chain_in, with_chain, chain_more, opened, next_task, next_chain, at_edition, at_period, at_budget, ranked, at_rank, repeated, longer, at_entry, at_limit, at_limit_number, step, line_end, text_end, typed};
 ghost use Rattle.text.specs.Run.{place_after, begins, turn, named, run, nameless, faulty, placed, located};
@@ -372,38 +372,6 @@ fn number_of(word: &[u8]) -> u32
     n
 }
 
-// The task before this one that has the name.
-#[tactic(auto, unfolding(crate::specs::Words::index))]
-fn index_of(names: &[&[u8]; 16], count: u8, word: &[u8]) -> Option<u8>
-    ensures { result ≡ index (map (λ n. n.now) names.now) (min count 16) word.now }
-{
-    for i in (0..count.min(16)).rev() {
-        if names[usize::from(i)] == word {
-            return Some(i);
-        }
-    }
-    None
-}
-
-#[tactic(auto, unfolding(crate::specs::Words::says))]
-fn word_says(names: &[&[u8]; 16], count: u8, word: &[u8]) -> Word
-    ensures { result ≡ says (map (λ n. n.now) names.now) count word.now }
-{
-    if let Some(key) = keyword_of(word) {
-        return Word::Key(key);
-    }
-    if is_number(word) {
-        return Word::Number(number_of(word));
-    }
-    if is_name(word) {
-        return match index_of(names, count, word) {
-            Some(i) => Word::Known(i),
-            None => Word::New,
-        };
-    }
-    Word::Other
-}
-
 // ---- the draft
 
 // The edition that a text says or needs.
@@ -575,7 +543,7 @@ fn read_edition(n: u32, d: Draft) -> Result<Draft, Wrong>
 fn read_period(period: u32, d: Draft) -> Result<Draft, Wrong>
     ensures { result ≡ at_period period d }
 {
-    if period < 1 || 100000 < period {
+    if !(1..=100000).contains(&period) {
         return Err(Wrong::Period);
     }
     let task = Task {
@@ -589,7 +557,7 @@ fn read_budget(budget: u32, d: Draft) -> Result<Draft, Wrong>
     ensures { result ≡ at_budget budget d }
 {
     let task = d.task();
-    if budget < 1 || task.period < budget {
+    if !(1..=task.period).contains(&budget) {
         return Err(Wrong::Budget);
     }
     let task = Task {
@@ -775,34 +743,99 @@ impl Place {
     }
 }
 
-// What the byte b at the front of what is left does.
-#[tactic(auto, unfolding(crate::specs::Run::turn))]
-fn read_byte(
-    names: &[&[u8]; 16],
+// A reading under way: the names that tasks have, where the next byte stands, and what was typed.
+#[derive(Clone, Copy)]
+struct Reading<'a> {
+    names: [&'a [u8]; 16],
     place: Place,
-    d: Draft,
-    b: u8,
-    rest: &[u8],
-) -> Result<Draft, Wrong>
-    ensures { result ≡ turn (map (λ n. n.now) names.now) place d b (word rest.now) }
-{
-    if b == b'\n' {
-        return end_line(d);
-    }
-    if place.begins(b) {
-        return read_word(word_says(names, d.count, first_word(rest)), d);
-    }
-    Ok(d)
+    draft: Draft,
 }
 
-// Where a name is wanted, the word that begins here is the name of the task that is being typed.
-#[tactic(auto, unfolding(crate::specs::Run::named))]
-fn keep_name<'a>(names: &mut [&'a [u8]; 16], place: Place, d: Draft, b: u8, rest: &'a [u8])
-    ensures { map (λ n. n.now) names.new ≡ named (map (λ n. n.now) names.old) place d b (word rest.now) }
-{
-    let k = usize::from(d.count);
-    if place.begins(b) && matches!(d.want, Want::Name) && k < names.len() {
-        names[k] = first_word(rest);
+impl<'a> Reading<'a> {
+    fn new() -> Self
+        ensures names { map (λ n. n.now) result.names ≡ nameless }
+        ensures place { result.place ≡ Between }
+        ensures draft { result.draft ≡ fresh }
+    {
+        let names = [b"".as_slice(); 16];
+        Reading {
+            names,
+            place: Place::Between,
+            draft: Draft::new(),
+        }
+    }
+
+    // The last task that has the name.
+    #[tactic(auto, unfolding(crate::specs::Words::index))]
+    fn task_named(&self, word: &[u8]) -> Option<u8>
+        ensures { result ≡ index (map (λ n. n.now) self.now.names) (min self.now.draft.count 16) word.now }
+    {
+        for i in (0..self.draft.count.min(16)).rev() {
+            if self.names[usize::from(i)] == word {
+                return Some(i);
+            }
+        }
+        None
+    }
+
+    #[tactic(auto, unfolding(crate::specs::Words::says))]
+    fn says(&self, word: &[u8]) -> Word
+        ensures { result ≡ says (map (λ n. n.now) self.now.names) self.now.draft.count word.now }
+    {
+        if let Some(key) = keyword_of(word) {
+            return Word::Key(key);
+        }
+        if is_number(word) {
+            return Word::Number(number_of(word));
+        }
+        if is_name(word) {
+            return match self.task_named(word) {
+                Some(i) => Word::Known(i),
+                None => Word::New,
+            };
+        }
+        Word::Other
+    }
+
+    // What the byte b at the front of what is left does.
+    #[tactic(auto, unfolding(crate::specs::Run::turn))]
+    fn read(&self, b: u8, rest: &[u8]) -> Result<Draft, Wrong>
+        ensures { result ≡ turn (map (λ n. n.now) self.now.names) self.now.place self.now.draft b (word rest.now) }
+    {
+        let d = self.draft;
+        if b == b'\n' {
+            return end_line(d);
+        }
+        if self.place.begins(b) {
+            return read_word(self.says(first_word(rest)), d);
+        }
+        Ok(d)
+    }
+
+    // Where a name is wanted, the word that begins here is the name of the task that is being typed.
+    #[tactic(auto, unfolding(crate::specs::Run::named))]
+    fn keep_name(&mut self, b: u8, rest: &'a [u8])
+        ensures names { map (λ n. n.now) self.new.names
+            ≡ named (map (λ n. n.now) self.old.names) self.old.place self.old.draft b (word rest.now) }
+        ensures place { self.new.place ≡ self.old.place }
+        ensures draft { self.new.draft ≡ self.old.draft }
+    {
+        let k = usize::from(self.draft.count);
+        if self.place.begins(b) && matches!(self.draft.want, Want::Name) && k < self.names.len() {
+            self.names[k] = first_word(rest);
+        }
+    }
+
+    // On to the next byte.
+    fn go_on(&mut self, b: u8, rest: &'a [u8], draft: Draft)
+        ensures names { map (λ n. n.now) self.new.names
+            ≡ named (map (λ n. n.now) self.old.names) self.old.place self.old.draft b (word rest.now) }
+        ensures place { self.new.place ≡ place_after self.old.place b }
+        ensures draft { self.new.draft ≡ draft }
+    {
+        self.keep_name(b, rest);
+        self.place = self.place.after(b);
+        self.draft = draft;
     }
 }
 
@@ -841,17 +874,13 @@ fn scan(text: &[u8]) -> Result<Draft, Fault>
     requires { length text.now ≤ 16384 }
     ensures { result ≡ located text.now (run nameless Between fresh text.now) }
 {
-    let mut names = [b"".as_slice(); 16];
-    let mut d = Draft::new();
-    let mut place = Place::Between;
+    let mut reading = Reading::new();
     for (at, b) in text.iter().enumerate() {
         let rest = &text[at..];
-        let next = placed_after(&text[..at], read_byte(&names, place, d, *b, rest))?;
-        keep_name(&mut names, place, d, *b, rest);
-        place = place.after(*b);
-        d = next;
+        let draft = placed_after(&text[..at], reading.read(*b, rest))?;
+        reading.go_on(*b, rest, draft);
     }
-    placed_after(text, end_text(d))
+    placed_after(text, end_text(reading.draft))
 }
 
 // One chain with no limit, and edition 2 not said: an old sheet.

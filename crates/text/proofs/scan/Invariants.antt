@@ -6,4 +6,6 @@ use Rattle.text.proofs.scan.Given as goal
 
 -- Reading what is left gives what reading all gives.
 abbrev pub invariant-loop-at : goal.invariant-loop-at
-invariant-loop-at l = (length l.text ≤ 16384) × (run nameless Between fresh l.text ≡ run (map (λ n. n.now) l.names) l.place l.d (drop l.at l.text))
+invariant-loop-at l =
+    (length l.text ≤ 16384)
+    × (run nameless Between fresh l.text ≡ run (map (λ n. n.now) l.reading.names) l.reading.place l.reading.draft (drop l.at l.text))

@@ -1,132 +1,223 @@
 // An answer as it goes to standard output: its size in bytes; the number of the refusal, 0 for none; one more than the bit or the
 // task that comes with it, 0 for none; the call's values; the lent memory. Every number is a word of four bytes, the most significant
 // first.
-// A function that puts something answers the place after it.
-use super::request::past;
 use answers::Refusal;
+use chain::Summary;
+use night::Replayed;
+use recurrence::Bounds;
+use schedule::{Size, Totals};
 use sheet::{Chain, Sheet};
+use telltale::Record;
 use theory::Task;
 
-fn wide(x: u8) -> u32 {
-    x as u32
+// The bytes of an answer, as many as the buffer has places for, and how many they are.
+#[derive(Drop)]
+pub struct Answer<'a> {
+    out: &'a mut [u8; 65536],
+    size: usize,
 }
 
-fn put_byte(out: &mut [u8], at: usize, value: u8) {
-    if at < out.len() {
-        out[at] = value;
+// What goes out of a value.
+pub trait Put: Copy {
+    fn put(self, answer: &mut Answer<'_>);
+}
+
+impl<'a> Answer<'a> {
+    // The size stands first.
+    pub fn new(out: &'a mut [u8; 65536]) -> Answer<'a> {
+        Answer { out, size: 4 }
     }
 }
 
-pub fn put_word(out: &mut [u8], at: usize, value: u32) -> usize {
-    put_byte(&mut *out, at, (value / 16777216) as u8);
-    put_byte(&mut *out, past(at, 1), (value / 65536 % 256) as u8);
-    put_byte(&mut *out, past(at, 2), (value / 256 % 256) as u8);
-    put_byte(out, past(at, 3), (value % 256) as u8);
-    past(at, 4)
-}
-
-// A number of 64 bits, in two words.
-pub fn put_long(out: &mut [u8], at: usize, value: u64) -> usize {
-    let next = put_word(&mut *out, at, (value / 4294967296) as u32);
-    put_word(out, next, (value % 4294967296) as u32)
-}
-
-pub fn put_bytes(out: &mut [u8], at: usize, bytes: &[u8]) -> usize {
-    let mut place = at;
-    let mut i = 0usize;
-    while i < bytes.len() {
-        put_byte(&mut *out, place, bytes[i]);
-        place = past(place, 1);
-        i += 1;
+impl Answer<'_> {
+    fn byte(&mut self, value: u8) {
+        if self.size < self.out.len() {
+            self.out[self.size] = value;
+        }
+        self.size = self.size.saturating_add(1);
     }
-    place
-}
 
-pub fn put_words(out: &mut [u8], at: usize, words: &[u32]) -> usize {
-    let mut place = at;
-    let mut i = 0usize;
-    while i < words.len() {
-        place = put_word(&mut *out, place, words[i]);
-        i += 1;
+    pub fn bytes(&mut self, bytes: &[u8]) {
+        for byte in bytes {
+            self.byte(*byte);
+        }
     }
-    place
-}
 
-fn put_tasks(out: &mut [u8], at: usize, tasks: [Task; 16]) -> usize {
-    let mut place = at;
-    let mut i = 0;
-    while i < 16 {
-        let t = tasks[i];
-        place = put_word(&mut *out, place, t.period);
-        place = put_word(&mut *out, place, t.budget);
-        place = put_word(&mut *out, place, wide(t.rank));
-        i += 1;
+    pub fn word(&mut self, value: u32) {
+        self.bytes(&value.to_be_bytes());
     }
-    place
-}
 
-fn put_chain(out: &mut [u8], at: usize, c: Chain) -> usize {
-    let first = put_word(&mut *out, at, c.limit);
-    let next = put_word(&mut *out, first, wide(c.length));
-    let entries = c.entries;
-    put_bytes(out, next, &entries)
-}
-
-fn put_chains(out: &mut [u8], at: usize, chains: [Chain; 8]) -> usize {
-    let mut place = at;
-    let mut i = 0;
-    while i < 8 {
-        let c = chains[i];
-        place = put_chain(&mut *out, place, c);
-        i += 1;
+    pub fn words(&mut self, words: &[u32]) {
+        for value in words {
+            self.word(*value);
+        }
     }
-    place
-}
 
-// Edition and both counts, and all places; of an entry only its byte.
-pub fn put_sheet(out: &mut [u8], at: usize, s: Sheet) -> usize {
-    let first = put_word(&mut *out, at, wide(s.edition));
-    let second = put_word(&mut *out, first, wide(s.count));
-    let third = put_word(&mut *out, second, wide(s.suite));
-    let tasks = s.tasks;
-    let next = put_tasks(&mut *out, third, tasks);
-    let chains = s.chains;
-    put_chains(out, next, chains)
-}
+    // Nothing is refused.
+    pub fn given<T: Put>(&mut self, value: T) {
+        self.words(&[0, 0]);
+        value.put(self);
+    }
 
-fn opening(out: &mut [u8], number: u32, value: u32) -> usize {
-    put_word(&mut *out, 4, number);
-    put_word(out, 8, value)
-}
+    // No value is the greatest number of 32 bits, so that one more than it is never cut.
+    pub fn refused(&mut self, r: Refusal) {
+        let value = r.value().map_or(0, |value| value.saturating_add(1));
+        self.words(&[u32::from(r.number()), value]);
+    }
 
-pub fn accepted(out: &mut [u8]) -> usize {
-    opening(out, 0, 0)
-}
+    pub fn result<T: Put>(&mut self, made: Result<T, Refusal>) {
+        match made {
+            Ok(value) => self.given(value),
+            Err(r) => self.refused(r),
+        }
+    }
 
-// No value is the greatest number of 32 bits, so that one more than it is never cut.
-pub fn refused(out: &mut [u8], r: Refusal) -> usize {
-    match r {
-        Refusal::Number(n) => opening(out, wide(n), 0),
-        Refusal::With(n, value) => opening(out, wide(n), value % 4294967295 + 1),
+    // A value, and what stands beside it: zeros where the call refuses.
+    pub fn beside<A: Put, B: Put + Default>(&mut self, made: Result<(A, B), Refusal>) {
+        match made {
+            Ok(value) => self.given(value),
+            Err(r) => {
+                self.refused(r);
+                B::default().put(self);
+            }
+        }
+    }
+
+    // What is too large for the buffer is not sent.
+    pub fn send(self) -> bool {
+        let Answer { out, size } = self;
+        if size > out.len() {
+            return false;
+        }
+        out[..4].copy_from_slice(&(size as u32).to_be_bytes());
+        io::write_all(1, &out[..size])
     }
 }
 
-pub fn one(out: &mut [u8], a: u32) -> usize {
-    let at = accepted(&mut *out);
-    put_word(out, at, a)
+impl Put for () {
+    fn put(self, _answer: &mut Answer<'_>) {}
 }
 
-pub fn two(out: &mut [u8], a: u32, b: u32) -> usize {
-    let at = one(&mut *out, a);
-    put_word(out, at, b)
+impl Put for u32 {
+    fn put(self, answer: &mut Answer<'_>) {
+        answer.word(self);
+    }
 }
 
-pub fn three(out: &mut [u8], a: u32, b: u32, c: u32) -> usize {
-    let at = two(&mut *out, a, b);
-    put_word(out, at, c)
+// In two words.
+impl Put for u64 {
+    fn put(self, answer: &mut Answer<'_>) {
+        answer.bytes(&self.to_be_bytes());
+    }
 }
 
-pub fn long(out: &mut [u8], a: u64) -> usize {
-    let at = accepted(&mut *out);
-    put_long(out, at, a)
+// Whether it is below zero, and how far from zero it is.
+impl Put for i32 {
+    fn put(self, answer: &mut Answer<'_>) {
+        answer.word(u32::from(self < 0));
+        arith::magnitude(self).put(answer);
+    }
+}
+
+// Whether there is one, and what it is.
+impl Put for Option<u32> {
+    fn put(self, answer: &mut Answer<'_>) {
+        match self {
+            Some(value) => answer.words(&[1, value]),
+            None => answer.words(&[0, 0]),
+        }
+    }
+}
+
+impl<A: Put, B: Put> Put for (A, B) {
+    fn put(self, answer: &mut Answer<'_>) {
+        self.0.put(answer);
+        self.1.put(answer);
+    }
+}
+
+impl<T: Put, const N: usize> Put for [T; N] {
+    fn put(self, answer: &mut Answer<'_>) {
+        for item in self {
+            item.put(answer);
+        }
+    }
+}
+
+impl Put for Task {
+    fn put(self, answer: &mut Answer<'_>) {
+        answer.words(&[self.period, self.budget, u32::from(self.rank)]);
+    }
+}
+
+// Of an entry only its byte.
+impl Put for Chain {
+    fn put(self, answer: &mut Answer<'_>) {
+        answer.words(&[self.limit, u32::from(self.length)]);
+        answer.bytes(&self.entries);
+    }
+}
+
+// Edition and both counts, and all places.
+impl Put for Sheet {
+    fn put(self, answer: &mut Answer<'_>) {
+        answer.words(&[self.edition, self.count, self.suite].map(u32::from));
+        self.tasks.put(answer);
+        self.chains.put(answer);
+    }
+}
+
+impl Put for Size {
+    fn put(self, answer: &mut Answer<'_>) {
+        answer.words(&[self.hyperperiod, self.jobs]);
+    }
+}
+
+impl Put for Totals {
+    fn put(self, answer: &mut Answer<'_>) {
+        answer.words(&[self.hyperperiod, self.jobs, self.idle]);
+    }
+}
+
+impl Put for Bounds {
+    fn put(self, answer: &mut Answer<'_>) {
+        answer.words(&[self.sampling_bound, self.bound]);
+    }
+}
+
+impl Put for Summary {
+    fn put(self, answer: &mut Answer<'_>) {
+        self.totals.put(answer);
+        answer.words(&[
+            self.sampling.ticks,
+            self.sampling.release,
+            self.sampling_bound,
+        ]);
+        answer.words(&[self.worst, self.bound]);
+        self.margin.put(answer);
+    }
+}
+
+// Of the longest whether there is one, its ticks and its job, and of the break whether there is one, and which.
+impl Put for Replayed {
+    fn put(self, answer: &mut Answer<'_>) {
+        answer.words(&[self.records, self.paths]);
+        match self.longest {
+            Some(longest) => answer.words(&[1, longest.ticks, longest.job]),
+            None => answer.words(&[0, 0, 0]),
+        }
+        self.breaking.put(answer);
+        answer.words(&[self.figure.ticks, self.figure.release]);
+    }
+}
+
+impl Put for Record {
+    fn put(self, answer: &mut Answer<'_>) {
+        answer.words(&[
+            u32::from(self.underway),
+            self.counter,
+            self.longest,
+            u32::from(self.count),
+        ]);
+    }
 }

@@ -1,9 +1,0 @@
--- It goes once over the places.
-use Prim.Native.Nat.{◌-◌, ◌≤◌}
-use Rattle.probe.proofs.request.chains_in.Given as goal
-
-abbrev pub invariant-loop-i : goal.invariant-loop-i
-invariant-loop-i l = l.i ≤ 8
-
-abbrev pub decreases-loop-i : goal.decreases-loop-i
-decreases-loop-i l = 8 - l.i

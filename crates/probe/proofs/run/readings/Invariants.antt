@@ -1,9 +1,0 @@
--- It goes so many times.
-use Prim.Native.Nat.{◌-◌, ◌≤◌}
-use Rattle.probe.proofs.run.readings.Given as goal
-
-abbrev pub invariant-loop-i : goal.invariant-loop-i
-invariant-loop-i l = l.i ≤ l.times
-
-abbrev pub decreases-loop-i : goal.decreases-loop-i
-decreases-loop-i l = l.times - l.i

@@ -1,17 +1,16 @@
 -- How the call ends: the answer and the table in each case are those of the definitions.
-use mathlib.Core.Path.{◌≡◌, refl, sym, ap, ap₂, ◌∙◌}
+use mathlib.Core.Path.{◌≡◌, sym, ap, ap₂, ◌∙◌}
 use mathlib.Core.Logic.{◌≢◌}
 use mathlib.Core.List.{List, ◌++◌}
 use mathlib.Core.Bool.{cond}
-use Prim.Native.Nat.{ℕ, ◌≤◌, ◌<◌}
+use Prim.Native.Nat.{ℕ, ◌≤◌}
 use lib.Dec.{eqb}
 use lib.ListN.{length, drop, replicate, take-append-drop}
-use borrow.Author.Tests.{ne_eqb, lt-ltb, le-ltb}
-use Rattle.std.specs.Prelude.{Result, Ok, Err}
+use borrow.Author.Tests.{ne_eqb, le-ltb}
+use Rattle.std.specs.Prelude.{Result, Ok}
 use Rattle.theory.specs.declared.Task.{Task}
 use Rattle.theory.specs.Model.Responses.{all_jobs}
 use Rattle.answers.specs.declared.Refusal.{Refusal}
-use Rattle.answers.specs.declared.Refusal.TheVariants.{Room, Late}
 use Rattle.answers.specs.Answers.{given, number_in, refusal, told}
 use Rattle.sheet.specs.declared.Sheet.{Sheet}
 use Rattle.sheet.specs.Tasks.{tasks_of}
@@ -30,17 +29,7 @@ module _ {ts : List Task} (fine : Fine ts) {size : Size} (sized : SizeOf ts size
   filled : (r : Result Totals Refusal) {table : List ℕ} → filled_of ts (length old) size ≡ told r → table ≡ table_after (told r) ts old → FilledAs ts size old r table
   filled r e t = (sym e, t ∙ ap (λ x. table_after x ts old) (sym e))
 
-  pub filled_small : length old < size.jobs → FilledAs ts size old (Err Room) old
-  filled_small l = filled (Err Room) (rw (lt-ltb (length old) size.jobs l)) refl
-
   module _ (room : size.jobs ≤ length old) where
-    -- A late task: the first J entries are cleared.
-    pub filled_late : {i : ℕ} {table : List ℕ} → Filled ts (length ts) (all_jobs ts) old table (Err i)
-        → FilledAs ts size old (Err (Late i)) (replicate size.jobs 0 ++ drop size.jobs table)
-    filled_late {i} {table} f =
-        filled (Err (Late i)) (rw (le-ltb (length old) size.jobs room, f.told.is_greatest))
-        (ap (λ n. replicate n 0 ++ drop n table) sized.jobs_are ∙ ap (λ xs. replicate (all_jobs ts) 0 ++ xs) f.untouched)
-
     -- None is late: the rows stand there.
     pub filled_full : {lowest : Lowest} {table : List ℕ} → Filled ts (length ts) (all_jobs ts) old table (Ok lowest)
         → FilledAs ts size old (Ok (record { hyperperiod = size.hyperperiod; jobs = size.jobs; idle = lowest.rests })) table

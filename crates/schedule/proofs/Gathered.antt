@@ -20,7 +20,7 @@ use Rattle.theory.specs.declared.Task.{Task}
 use Rattle.theory.specs.Model.Schedule.{none, period, budget, rank}
 use Rattle.sheet.specs.TaskLaws.{Allowed}
 use Rattle.schedule.specs.declared.level.Place.{Place}
-use Rattle.schedule.specs.Conditions.{place_of, place_at, over, DueAt, AllDueAt, Adds, Additive, Above}
+use Rattle.schedule.specs.Conditions.{place_of, place_at, over, DueAt, AllDueAt, Adds, Additive}
 
 -- A task before its first release, which is at tick 0.
 pub starts_due : {task : Task} → Allowed task → DueAt 0 (place_of task)
@@ -46,9 +46,6 @@ module _ {ts : List Task} {r : ℕ} where
     budgets_most = λ p l. absurd (omega arith);
     sums = λ f add. refl;
   }
-
-  pub gather_end : {places : List Place} → GatheredTo ts r places (length ts) → Above ts r places
-  gather_end g = record { due = g.due; sums = g.sums }
 
   module _ {places : List Place} {j : ℕ} (g : GatheredTo ts r places j) where
     -- Task j outranks it,

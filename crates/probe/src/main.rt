@@ -44,18 +44,18 @@ fn difference_number(difference: Difference) -> u32 {
 
 // What was found, the sheet or the index, and what differs there; after a refusal the sheet.
 fn put_comparison(answer: &mut Answer<'_>, found: Result<(), Obstacle>) {
-    match found {
-        Ok(()) => answer.given([0, 0, 0]),
-        Err(Obstacle::Edition(which)) => answer.given([1, which_number(which), 0]),
-        Err(Obstacle::Chain) => answer.given([2, 0, 0]),
-        Err(Obstacle::Task(i, difference)) => {
-            answer.given([3, u32::from(i), difference_number(difference)])
-        }
+    let numbers: [u32; 3] = match found {
+        Ok(()) => [0, 0, 0],
+        Err(Obstacle::Edition(which)) => [1, which_number(which), 0],
+        Err(Obstacle::Chain) => [2, 0, 0],
+        Err(Obstacle::Task(i, difference)) => [3, u32::from(i), difference_number(difference)],
         Err(Obstacle::Refused(which, r)) => {
             answer.refused(r);
             answer.word(which_number(which));
+            return;
         }
-    }
+    };
+    answer.given(numbers);
 }
 
 // The calls, by their numbers. A number that is none of these answers no values.

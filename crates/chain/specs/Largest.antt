@@ -1,6 +1,6 @@
 -- The largest figures: how long a hand-over and a chain can take where periods and responses are at most 100,000 ticks.
 use mathlib.Core.List.{List, [], ◌∷◌}
-use Rattle.std.specs.Prelude.{Bool, cond, ℕ, suc, ◌+◌, ◌*◌, ◌/◌, ◌≤◌, ◌<◌, get_or}
+use Rattle.std.specs.Prelude.{Bool, cond, ℕ, ◌+◌, ◌*◌, ◌/◌, ◌≤◌, ◌<◌}
 use Rattle.std.proofs.Math.Bool.{true, false}
 use Rattle.std.proofs.Common.{le_trans}
 use native.Mathlib.Omega.{arith}

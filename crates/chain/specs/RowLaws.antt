@@ -1,6 +1,6 @@
 -- The rows of a sheet's tasks: where they lie in a filled table, and how they are noted one by one and copied along a chain.
 use Rattle.std.specs.Prelude.{◌≡◌, List, ℕ, suc, ◌+◌, ◌-◌, ◌*◌, ◌≤◌, ◌<◌, length, get_or, set, take, drop}
-use Rattle.std.proofs.Common.{sym, ap, ◌∙◌, subst, arith, le_trans, length-take, length-take-le, length-drop, get_or-take, get_or-drop, get_or-set_same, get_or-set_other, below_more}
+use Rattle.std.proofs.Common.{sym, ap, ◌∙◌, subst, arith, length-take, length-take-le, length-drop, get_or-take, get_or-drop, get_or-set_same, get_or-set_other, below_more}
 use Rattle.theory.specs.declared.Task.{Task}
 use Rattle.arith.specs.Ranges.{sum}
 use Rattle.arith.specs.RangeLaws.{sum_grows}
@@ -8,7 +8,7 @@ use Rattle.theory.specs.Model.Schedule.{none, period}
 use Rattle.theory.specs.Model.Responses.{jobs, all_jobs}
 use Rattle.theory.proofs.Analysis.Hyperperiod.{jobs_whole, jobs_positive}
 use Rattle.theory.proofs.Analysis.Repetition.{response_period}
-use Rattle.schedule.specs.Calls.{most_ticks, most_jobs}
+use Rattle.schedule.specs.Calls.{most_ticks}
 use Rattle.schedule.specs.Taken.{Taken, Holds}
 use Rattle.chain.specs.declared.row.Row.{Row}
 use Rattle.chain.specs.Most.{most_period}

@@ -7,7 +7,7 @@ use crate::answer::Figure;
 use crate::row::{HandOver, Row};
 
 // The delay of a path from job k of its first task on: the wait for the next release, and then "the same rule asked of a shorter one".
-pub fn walk(path: &[Row<'_>], k: u32) -> u32
+pub(crate) fn walk(path: &[Row<'_>], k: u32) -> u32
     requires { k * period_in path.now + most_wait * length path.now ≤ most_release + most_wait }
     ensures { result ≡ delay_in path.now k }
 {
@@ -44,7 +44,7 @@ fn first_hand_over(path: &[Row<'_>], k: u32) -> HandOver
 
 // The greatest delay over the first task's jobs, and the smallest release that gives it. Paths that go to one job
 // end together, so of these only the first is followed.
-pub fn sampling(path: &[Row<'_>]) -> Figure
+pub(crate) fn sampling(path: &[Row<'_>]) -> Figure
     requires { length path.now ≤ 16 }
     ensures { Greatest (count_in path.now) (period_in path.now) (delay_in path.now) result }
 {
@@ -73,7 +73,7 @@ pub fn sampling(path: &[Row<'_>]) -> Figure
 }
 
 // The quick bound: what each pair adds, and R of the last task.
-pub fn bound(path: &[Row<'_>]) -> u32
+pub(crate) fn bound(path: &[Row<'_>]) -> u32
     requires { length path.now ≤ 16 }
     ensures { result ≡ bound_in path.now }
 {

@@ -38,41 +38,40 @@ impl Row<'_> {
     ghost use Rattle.chain.specs.Paths.{response_in, greatest_in, pair_in, HandedOver};
 
     // The response of job k; "a job released at or after H has the response of the job released at its release modulo H".
-    pub fn response(&self, k: u32) -> u32
+    pub(crate) fn response(&self, k: u32) -> u32
         ensures { result ≡ response_in self.now k }
     {
         let count = self.responses.len() as u32;
-        let mut job = k;
-        if count <= job {
-            job = k % count;
-        }
+        let job = if k < count { k } else { k % count };
         self.responses[job as usize]
     }
 
     // R of the task.
-    pub fn greatest(&self) -> u32
+    pub(crate) fn greatest(&self) -> u32
         ensures { result ≡ greatest_in self.now }
     {
         arith::greatest(self.responses)
     }
 
     // The hand-over from job k to the next task: "the next release", and how long it is until then.
-    pub fn hand_over(&self, next: &Row<'_>, k: u32) -> HandOver
+    pub(crate) fn hand_over(&self, next: &Row<'_>, k: u32) -> HandOver
         requires { k * self.now.task.period ≤ most_release }
         ensures { HandedOver self.now next.now k result }
     {
         let release = k * self.task.period;
-        let mut ready = release;
-        if self.task.rank < next.task.rank {
-            ready += self.response(k);
-        }
+        let ready = if self.task.rank < next.task.rank {
+            release + self.response(k)
+        } else {
+            release
+        };
         let job = ready.div_ceil(next.task.period);
         let wait = job * next.task.period - release;
         HandOver { job, wait }
     }
 
     // What the pair with the next task adds to the quick bound.
-    pub fn pair_bound(&self, next: &Row<'_>) -> u32
+    #[tactic(auto, using(crate::specs::PathLaws::pair_near))]
+    pub(crate) fn pair_bound(&self, next: &Row<'_>) -> u32
         ensures { result ≡ pair_in self.now next.now }
     {
         recurrence::pair_bound(self.task, next.task, self.greatest()) as u32

@@ -12,7 +12,7 @@ use Rattle.sheet.specs.TaskLaws.{chain_known}
 use Rattle.schedule.specs.Calls.{sizes_of, responses_of}
 use Rattle.schedule.specs.CallLaws.{sizes_given}
 use Rattle.schedule.specs.Taken.{Taken, Holds}
-use Rattle.chain.specs.Calls.{delay_at, delay_of, named}
+use Rattle.chain.specs.Calls.{delay_at, delay_of}
 use Rattle.chain.specs.CallLaws.{filled_ready, answers_no, answers_given, answers_number, named_untouched, sizes_untouched, lacking_no, lacking_fine, delay_known, delay_beyond, delay_between, delay_asked}
 use Rattle.chain.specs.ReleaseLaws.{job_early, job_release}
 use Rattle.chain.proofs.delay.Goals.{Else-release-period-gt0, In_ok-totals}
@@ -64,11 +64,8 @@ returns-then-size-release c =
     answers_number 12 s c.args.table.now (omega arith)
     (delay_beyond s c.args.number has (length c.args.table.now) fits c.args.release (omega (arith, c.if-size-release.true, (sizes_given s fits).hyperperiod_is)))
 
-pub invariant_of-judged : goal.invariant_of-judged
-invariant_of-judged c = record { sound = judged_sound c.args.s (sizes_given c.args.s (sym c.sizes.ensures ∙ ap told c.in_ok-size.was)).judged_fine }
-
-pub first_period-period-requires : goal.first_period-period-requires
-first_period-period-requires c = lacking_fine c.args.s c.args.number c.lacking.ensures c.in_ok-lacking.was
+pub invariant_of-sheet : goal.invariant_of-sheet
+invariant_of-sheet c = record { sound = judged_sound c.args.s (sizes_given c.args.s (sym c.sizes.ensures ∙ ap told c.in_ok-size.was)).judged_fine }
 
 pub returns-then-release-period-gt0 : goal.returns-then-release-period-gt0
 returns-then-release-period-gt0 c =
@@ -91,21 +88,16 @@ returns-in_err-totals c =
 ready : (c : In_ok-totals) → (Sound c.args.s × Taken (tasks_of c.args.s)) × ((c.in_ok-totals.totals.hyperperiod ≡ hyperperiod (tasks_of c.args.s)) × Holds (tasks_of c.args.s) c.responses.new.table)
 ready c = filled_ready c.args.s c.args.table.now (sym c.responses.ensures.0 ∙ ap told c.in_ok-totals.was) c.responses.ensures.1
 
-pub rows_of-rows-requires : goal.rows_of-rows-requires
-rows_of-rows-requires c = let r = ready (goal.at.rows_of-rows-requires c).In_ok-totals in record { taken = r.0.1; h_value = r.1.0; holds = r.1.1 }
+pub new-filled-requires : goal.new-filled-requires
+new-filled-requires c = let r = ready (goal.at.new-filled-requires c).In_ok-totals in record { taken = r.0.1; h_value = r.1.0; holds = r.1.1 }
 
-pub delay_in-requires : goal.delay_in-requires
-delay_in-requires c =
+pub delay-requires-clause-k_bound : goal.delay-requires-clause-k_bound
+delay-requires-clause-k_bound c =
     let s = c.args.s in
-    let at = (goal.at.delay_in-requires c).Else-release-period-gt0 in
-    let r = ready (goal.at.delay_in-requires c).In_ok-totals in
+    let at = (goal.at.delay-requires-clause-k_bound c).Else-release-period-gt0 in
+    let r = ready (goal.at.delay-requires-clause-k_bound c).In_ok-totals in
     let first = chain_head (tasks_of s) (first_of (chain_of s c.args.number)) (rest_of (chain_of s c.args.number)) (chain_known _ r.0.0 c.args.number (has at)) in
-    record {
-      taken = r.0.1;
-      number_value = has at;
-      rows_value = c.rows_of-rows.ensures;
-      k_bound = rw c.first_period-period.ensures.0 (job_early r.0.1.accepted.proper (first_of (chain_of s c.args.number)) first c.args.release (early at));
-    }
+    rw c.first_period-period.ensures.0 (job_early r.0.1.accepted.proper (first_of (chain_of s c.args.number)) first c.args.release (early at))
 
 pub returns : goal.returns
 returns c =
@@ -116,4 +108,4 @@ returns c =
     ap (λ x. c.args.release / x * period (tasks_of s) first) c.first_period-period.ensures.0 ∙ job_release (tasks_of s) first c.args.release (whole at) in
     rw (asked at)
     (answers_given s c.args.table.now _ (sym c.responses.ensures.0 ∙ ap told c.in_ok-totals.was)
-    (ap given (sym (c.delay_in.ensures ∙ ap (delay_at (tasks_of s) (chain_of s c.args.number)) job))) c.responses.ensures.1)
+    (ap given (sym (c.delay.ensures ∙ ap (delay_at (tasks_of s) (chain_of s c.args.number)) job))) c.responses.ensures.1)

@@ -8,7 +8,7 @@ use Rattle.sheet.specs.Tasks.{tasks_of}
 use Rattle.schedule.specs.Taken.{Taken, Holds}
 use Rattle.chain.specs.Calls.{with_tasks, named, figures_of, task_figures_of}
 use Rattle.chain.specs.CallLaws.{answers_no, answers_given, named_untouched, lacking_no, lacking_fine, task_figures_known, tasks_ready}
-use Rattle.chain.proofs.figures.Goals.{In_ok-filled}
+use Rattle.chain.proofs.figures.Goals.{In_ok-totals}
 use Rattle.chain.proofs.figures.Goals as goal
 
 pub returns-in_err-lacking : goal.returns-in_err-lacking
@@ -22,36 +22,30 @@ returns-in_err-lacking c =
     let lack = answers_no s old _ r e (named_untouched s old r c.args.number e) in
     rw (p.1, p.2) (answers_no s old (λ x. given (with_tasks s x)) r (sym lack.0) lack.1)
 
-pub returns-in_err-filled : goal.returns-in_err-filled
-returns-in_err-filled c =
+pub returns-in_err-totals : goal.returns-in_err-totals
+returns-in_err-totals c =
     let s = c.args.s in
     let old = c.args.table.now in
-    let p = err_from_is_err_and c.from_residual-in_err-filled.result c.from_residual-in_err-filled.ensures.1 in
+    let p = err_from_is_err_and c.from_residual-in_err-totals.result c.from_residual-in_err-totals.ensures.1 in
     let has = lacking_fine s c.args.number c.lacking.ensures c.in_ok-lacking.was in
     rw (p.1, p.2, task_figures_known s c.args.number has (length old))
-    (answers_no s old _ c.in_err-filled.field-0.0 (sym c.task_responses.ensures.0 ∙ ap told c.in_err-filled.was) c.task_responses.ensures.1)
+    (answers_no s old _ c.in_err-totals.field-0.0 (sym c.task_responses.ensures.0 ∙ ap told c.in_err-totals.was) c.task_responses.ensures.1)
 
 -- The table is filled.
-ready : (c : In_ok-filled) → (Sound c.args.s × Taken (tasks_of c.args.s)) × ((c.in_ok-filled.filled.totals.hyperperiod ≡ hyperperiod (tasks_of c.args.s)) × Holds (tasks_of c.args.s) c.task_responses.new.table)
-ready c = tasks_ready c.args.s c.args.table.now (sym c.task_responses.ensures.0 ∙ ap told c.in_ok-filled.was) c.task_responses.ensures.1
+ready : (c : In_ok-totals) → (Sound c.args.s × Taken (tasks_of c.args.s)) × ((c.in_ok-totals.field-0.totals.hyperperiod ≡ hyperperiod (tasks_of c.args.s)) × Holds (tasks_of c.args.s) c.task_responses.new.table)
+ready c = tasks_ready c.args.s c.args.table.now (sym c.task_responses.ensures.0 ∙ ap told c.in_ok-totals.was) c.task_responses.ensures.1
 
-pub invariant_of-judged : goal.invariant_of-judged
-invariant_of-judged c = record { sound = (ready (goal.at.invariant_of-judged c).In_ok-filled).0.0 }
+pub invariant_of-sheet : goal.invariant_of-sheet
+invariant_of-sheet c = record { sound = (ready (goal.at.invariant_of-sheet c).In_ok-totals).0.0 }
 
-pub rows_of-rows-requires : goal.rows_of-rows-requires
-rows_of-rows-requires c = let r = ready (goal.at.rows_of-rows-requires c).In_ok-filled in record { taken = r.0.1; h_value = r.1.0; holds = r.1.1 }
-
-pub summary_of-summary-requires : goal.summary_of-summary-requires
-summary_of-summary-requires c =
-    let r = ready (goal.at.summary_of-summary-requires c).In_ok-filled in
-    record { taken = r.0.1; number_value = lacking_fine c.args.s c.args.number c.lacking.ensures c.in_ok-lacking.was; rows_value = c.rows_of-rows.ensures }
+pub new-filled-requires : goal.new-filled-requires
+new-filled-requires c = let r = ready (goal.at.new-filled-requires c).In_ok-totals in record { taken = r.0.1; h_value = r.1.0; holds = r.1.1 }
 
 pub returns : goal.returns
 returns c =
     let s = c.args.s in
     let old = c.args.table.now in
-    let filled = c.in_ok-filled.filled in
     let has = lacking_fine s c.args.number c.lacking.ensures c.in_ok-lacking.was in
     rw (task_figures_known s c.args.number has (length old))
-    (answers_given s old _ (sym c.task_responses.ensures.0 ∙ ap told c.in_ok-filled.was)
-    (ap (λ x. given (record { summary = x; greatest = filled.greatest })) (sym c.summary_of-summary.ensures)) c.task_responses.ensures.1)
+    (answers_given s old _ (sym c.task_responses.ensures.0 ∙ ap told c.in_ok-totals.was)
+    (ap (λ x. given (record { summary = x; greatest = c.in_ok-totals.field-0.greatest })) (sym c.summary-summary.ensures)) c.task_responses.ensures.1)

@@ -1,13 +1,11 @@
 -- A limit over 4,000,000 is refused once the chain, H and J are judged; one that is allowed is taken less the worst, which is small.
-use Rattle.std.proofs.Common.{◌≡◌, ◌<◌, ◌≤◌, [], sym, ap, ◌∙◌, length, arith}
+use Rattle.std.proofs.Common.{◌≡◌, [], sym, ap, ◌∙◌, length, arith}
 use Rattle.std.proofs.lemmas.Result.{err_from_is_err_and}
 use mir.Syntax.{w32}
 use mir.ValLaws.{to_z-of_z}
 use Rattle.answers.specs.Answers.{given, refused, refusal, told, after}
-use Rattle.sheet.specs.Tasks.{lacks}
 use Rattle.schedule.specs.Calls.{sizes_of}
 use Rattle.chain.specs.declared.answer.Figure.{Figure}
-use Rattle.chain.specs.Calls.{named, figures_of}
 use Rattle.chain.specs.CallLaws.{answers_no, answers_given, answers_number, named_untouched, sizes_untouched, lacking_no, lacking_fine, margin_over, over_known, margin_tasks, summary_in, figures_given}
 use Rattle.chain.specs.Largest.{worst_most}
 use Rattle.chain.proofs.margin.Goals as goal

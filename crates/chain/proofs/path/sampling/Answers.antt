@@ -1,5 +1,5 @@
 -- Of the jobs so far the longest delay is kept with its first; one that is handed over to the job of the last one followed cannot be longer.
-use Rattle.std.proofs.Common.{◌≡◌, ℕ, ◌+◌, ◌*◌, ◌≤◌, List, length, arith, sym, ap, ◌∙◌, subst}
+use Rattle.std.proofs.Common.{◌≡◌, ℕ, ◌+◌, ◌*◌, List, arith, sym, ap, ◌∙◌, subst}
 use Rattle.chain.specs.declared.row.Row.{Row}
 use Rattle.chain.specs.declared.row.HandOver.{HandOver}
 use Rattle.chain.specs.Paths.{period_in, count_in, delay_in, ahead, FirstHandedOver}

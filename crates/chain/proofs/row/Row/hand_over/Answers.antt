@@ -17,7 +17,7 @@ returns c =
     -- The reading is ready at the producer's finish where the consumer outranks it, and at its release otherwise.
     let ready_is : c.if-self-next.ready ≡ cond (waits_in p n) (release + response_in p c.args.k) release =
     elim c.if-self-next.branch [
-      | then-self-next w ↦ rw (lt-ltb _ _ w.if-self-next.true) (w.ready-is ∙ ap (λ x. release + x) w.response-ready.ensures)
+      | then-self-next w ↦ rw (lt-ltb _ _ w.if-self-next.true) (w.ready-is ∙ ap (λ x. release + x) w.response.ensures)
       | else-self-next w ↦ rw (le-ltb _ _ w.if-self-next.false) w.ready-is
     ] in
     let near = div_ceil_times c.if-self-next.ready T n.period_positive in

@@ -4,7 +4,7 @@ use Rattle.arith.specs.Ranges.{sum}
 use Rattle.theory.specs.Model.Responses.{jobs}
 use Rattle.sheet.specs.Tasks.{tasks_of}
 use Rattle.chain.specs.Paths.{RowsOf}
-use Rattle.chain.proofs.rows_of.Given as goal
+use Rattle.chain.proofs.filled.Filled.new.Given as goal
 
 abbrev pub invariant-loop-i : goal.invariant-loop-i
-invariant-loop-i l = record { whole : length l.rows ≡ 16; from_is : l.from ≡ sum l.i (jobs (tasks_of l.s.sheet)); noted : RowsOf (tasks_of l.s.sheet) l.i l.rows }
+invariant-loop-i l = record { whole : length l.rows ≡ 16; from_is : l.from ≡ sum l.i (jobs (tasks_of l.sheet.sheet)); noted : RowsOf (tasks_of l.sheet.sheet) l.i l.rows }

@@ -5,7 +5,7 @@ use Rattle.sheet.specs.PlaceLaws.{places_set}
 use Rattle.sheet.specs.TaskLaws.{chains_most}
 use Rattle.chain.specs.declared.answer.Summary.{Summary}
 use Rattle.chain.specs.Calls.{summary_at, no_summary}
-use Rattle.chain.proofs.each_summary.Goals as goal
+use Rattle.chain.proofs.filled.Filled.summaries.Goals as goal
 
 -- Zeros are the blank summary.
 zeros : {h j i t r q w b : ℕ} {m : ℤ} → h ≡ 0 → j ≡ 0 → i ≡ 0 → t ≡ 0 → r ≡ 0 → q ≡ 0 → w ≡ 0 → b ≡ 0 → m ≡ pos 0
@@ -19,5 +19,5 @@ loop-c-init c = ap (replicate 8) (let d = c.default-chains.ensures in zeros d.0.
 pub loop-c-preserved : goal.loop-c-preserved
 loop-c-preserved c =
     let l = c.loop-c in
-    ap₂ (λ xs x. set xs l.c x) l.invariant c.summary_of.ensures
-    ∙ places_set 8 no_summary (λ k. summary_at c.args.s.sheet (k + 1) c.args.totals) l.c (omega (arith, c.chain_count-c-end.ensures, chains_most c.args.s.sheet c.args.s.sound))
+    ap₂ (λ xs x. set xs l.c x) l.invariant c.summary.ensures
+    ∙ places_set 8 no_summary (λ k. summary_at c.args.self.now.sheet.sheet (k + 1) c.args.totals) l.c (omega (arith, c.chain_count-c-end.ensures, chains_most c.args.self.now.sheet.sheet c.args.self.now.sheet.sound))

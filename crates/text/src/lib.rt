@@ -3,7 +3,7 @@
 // (specs/Run.antt). That what is shown says the sheet is proved of them (specs/RoundTrip.antt).
 #![tactic(auto)]
 
-ghost use Rattle.std.specs.Prelude.{◌≡◌, List, [], map, ◌++◌, ℕ, ◌+◌, ◌≤◌, min, length, take};
+ghost use Rattle.std.specs.Prelude.{◌≡◌, List, [], map, ◌++◌, ℕ, ◌+◌, ◌≤◌, min, length, set, take};
 ghost use Rattle.text.specs.Shown.{numeral, task_line, task_lines, entry_words, limit_words, chain_line, chain_lines, chain_count, text_of};
 ghost use Rattle.text.specs.Words.{ends, word, digit, name_byte, every, number, keyword, index, says};
 ghost use Rattle.text.specs.Grammar.{missing, fresh, wanting, with_edition, task_in, with_task, task_more, chain_in, with_chain, chain_more, opened, next_task, next_chain, at_edition, at_period, at_budget, ranked, at_rank, repeated, longer, at_entry, at_limit, at_limit_number, step, line_end, text_end, typed};
@@ -381,6 +381,16 @@ enum Edition {
     Two,
 }
 
+// Past the end nothing is set.
+fn set_at<T: Copy>(list: &mut [T], k: u8, x: T)
+    ensures { list.new ≡ set list.old k x }
+{
+    let k = usize::from(k);
+    if k < list.len() {
+        list[k] = x;
+    }
+}
+
 // What was typed so far, and what is wanted next. The task and the chain that are being typed stand in the places after `count` and `suite`.
 #[derive(Clone, Copy)]
 struct Draft {
@@ -442,10 +452,8 @@ impl Draft {
     fn with_task(mut self, task: Task) -> Self
         ensures { result ≡ with_task task self }
     {
-        let k = usize::from(self.count);
-        if k < self.tasks.len() {
-            self.tasks[k] = task;
-        }
+        let k = self.count;
+        set_at(&mut self.tasks, k, task);
         self
     }
 
@@ -463,10 +471,8 @@ impl Draft {
     fn with_chain(mut self, chain: Chain) -> Self
         ensures { result ≡ with_chain chain self }
     {
-        let k = usize::from(self.suite);
-        if k < self.chains.len() {
-            self.chains[k] = chain;
-        }
+        let k = self.suite;
+        set_at(&mut self.chains, k, chain);
         self
     }
 
@@ -605,10 +611,8 @@ fn has_entry(chain: Chain, entry: u8) -> bool
 fn with_entry(mut chain: Chain, entry: u8) -> Chain
     ensures { result ≡ longer chain entry }
 {
-    let k = usize::from(chain.length);
-    if k < chain.entries.len() {
-        chain.entries[k] = entry;
-    }
+    let length = chain.length;
+    set_at(&mut chain.entries, length, entry);
     chain.length = chain.length.saturating_add(1).min(16);
     chain
 }
@@ -820,9 +824,9 @@ impl<'a> Reading<'a> {
         ensures place { self.new.place ≡ self.old.place }
         ensures draft { self.new.draft ≡ self.old.draft }
     {
-        let k = usize::from(self.draft.count);
-        if self.place.begins(b) && matches!(self.draft.want, Want::Name) && k < self.names.len() {
-            self.names[k] = first_word(rest);
+        let d = self.draft;
+        if self.place.begins(b) && matches!(d.want, Want::Name) {
+            set_at(&mut self.names, d.count, first_word(rest));
         }
     }
 

@@ -1,5 +1,5 @@
 -- The judgement of a log field by field, and the loop over its records.
-use Rattle.std.proofs.Common.{◌≡◌, ℕ, suc, ◌+◌, ◌-◌, ◌*◌, ◌<◌, ◌≤◌, cond, eqb, List, length, get_or, set, replicate, sym, refl, ap, ◌∙◌, subst, ap₂, arith, length-set, get_or-set_other, get_or-set_same, eq-eqb, ne_eqb}
+use Rattle.std.proofs.Common.{◌≡◌, ℕ, zero, suc, ◌+◌, ◌-◌, ◌*◌, ◌%◌, ◌<◌, ◌≤◌, cond, eqb, List, length, get_or, set, replicate, sym, refl, ap, ◌∙◌, subst, ap₂, arith, length-set, get_or-set_other, get_or-set_same, eq-eqb, ne_eqb}
 use native.Mathlib.Decide.{ℕ_discrete}
 use lib.ListN.{length-replicate, get_or-replicate}
 use Rattle.arith.specs.Ranges.{sum}
@@ -12,8 +12,22 @@ use Rattle.clocklog.specs.declared.answer.Entry.{Entry}
 use Rattle.clocklog.specs.declared.answer.Kind.{Kind}
 use Rattle.clocklog.specs.declared.answer.Kind.TheVariants.{Start}
 use Rattle.clocklog.specs.Promises.{EntryPromise}
-use Rattle.clocklog.specs.Format.{most_time, begin, count, entry_judged, head_judged, log_judged, task, kind, kind_in, gap, time_before, expected, record_judged, records_judged}
+use Rattle.clocklog.specs.Format.{most_time, turn, across, begin, count, counter, before, entry_judged, head_judged, log_judged, task, kind, kind_in, gap, time_before, expected, record_judged, records_judged}
 use Rattle.clocklog.specs.FormatLaws.{record_fine}
+
+-- ---- the counters
+
+before_lt : (bytes : List ℕ) (r : ℕ) → before bytes r < turn
+before_lt bytes zero = omega (arith, number_lt (unpack bytes) 0 32)
+before_lt bytes (suc r) = omega (arith, number_lt (unpack bytes) (begin r + 4 + 1) 32)
+
+carried : (from to : ℕ) → from < turn → to < turn → (from + across from to) % turn ≡ to
+carried from to l m = omega arith
+
+-- A counter and the difference to the next give the next.
+pub counter_next : (bytes : List ℕ) (r from d : ℕ) → from ≡ before bytes r → d ≡ gap bytes r → (from + d) % turn ≡ before bytes (r + 1)
+counter_next bytes r from d e f =
+    ap₂ (λ from d. (from + d) % turn) e f ∙ carried (before bytes r) (counter bytes r) (before_lt bytes r) (before_lt bytes (suc r)) ∙ ap (before bytes) {x = suc r} {y = r + 1} (omega arith)
 
 -- ---- the loop
 

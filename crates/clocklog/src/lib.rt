@@ -8,7 +8,7 @@ mod answer;
 ghost use Rattle.std.specs.Prelude.{◌≡◌, ◌-◌, ◌*◌, ◌<◌, ◌≤◌, length};
 ghost use Rattle.answers.specs.Answers.{told};
 ghost use Rattle.sheet.specs.Calls.{tail_of};
-ghost use Rattle.clocklog.specs.Format.{most_time, begin, kind, counter, before, gap, within, index_judged, kind_judged, counter_judged, entry_judged, records_judged, head_judged, kind_in};
+ghost use Rattle.clocklog.specs.Format.{most_time, begin, origin, kind, counter, before, within, index_judged, kind_judged, counter_judged, entry_judged, records_judged, head_judged, kind_in};
 ghost use Rattle.clocklog.specs.Promises.{CountPromise, EntryPromise, JudgePromise};
 
 pub use answer::{Entry, Kind};
@@ -45,21 +45,20 @@ fn counter_at(log: &[u8], r: u16) -> u32
     bits::number(log, begin_of(r) + INDEX_BITS + KIND_BITS, COUNTER_BITS)
 }
 
+fn origin(log: &[u8]) -> u32
+    ensures { result ≡ origin log.now }
+{
+    bits::number(log, 0, ORIGIN_BITS)
+}
+
 // The counter before that of record r.
 fn counter_before(log: &[u8], r: u16) -> u32
     ensures { result ≡ before log.now r }
 {
     if r == 0 {
-        return bits::number(log, 0, ORIGIN_BITS);
+        return origin(log);
     }
     counter_at(log, r - 1)
-}
-
-// "The counter rolls over past its top value and carries on from zero."
-fn gap_at(log: &[u8], r: u16) -> u32
-    ensures { result ≡ gap log.now r }
-{
-    counter_at(log, r).wrapping_sub(counter_before(log, r))
 }
 
 // How many records the log says that it has.
@@ -79,15 +78,23 @@ fn kind_at(log: &[u8], r: u16) -> Kind
     }
 }
 
-// Record r. A bit past the end counts as 0.
-pub fn entry(log: &[u8], r: u16) -> Entry
+// Record r, behind a counter. "The counter rolls over past its top value and carries on from zero."
+fn entry_after(log: &[u8], r: u16, last: u32) -> Entry
+    requires { last ≡ before log.now r }
     ensures { EntryPromise log.now r result }
 {
     Entry {
         task: bits::number(log, begin_of(r), INDEX_BITS) as u8,
         kind: kind_at(log, r),
-        gap: gap_at(log, r),
+        gap: counter_at(log, r).wrapping_sub(last),
     }
+}
+
+// Record r. A bit past the end counts as 0.
+pub fn entry(log: &[u8], r: u16) -> Entry
+    ensures { EntryPromise log.now r result }
+{
+    entry_after(log, r, counter_before(log, r))
 }
 
 // A field lies inside so many bytes.
@@ -170,11 +177,13 @@ fn judge_records(log: &[u8], tasks: u8, n: u16) -> Result<(), Refusal>
 {
     let mut expected = [Kind::Start; 16];
     let mut time = 0u32;
+    let mut counter = origin(log);
     for r in 0..n {
-        let e = entry(log, r);
+        let e = entry_after(log, r, counter);
         let i = e.task as usize;
         judge_entry(log.len(), begin_of(r), tasks, e, expected[i], time)?;
         time += e.gap;
+        counter = counter.wrapping_add(e.gap);
         expected[i] = e.kind.next();
     }
     Ok(())

@@ -164,7 +164,7 @@ pub fn show(s: Sheet, out: &mut [u8]) -> Result<usize, Refusal>
 // What is wanted next, and so the number of the mistake where it is not there.
 #[derive(Clone, Copy, PartialEq, Eq)]
 pub enum Want {
-    Opening,
+    Opening = 1,
     Task,
     More,
     Chain,
@@ -223,24 +223,7 @@ impl Wrong {
         ensures { NumberPromise self result }
     {
         match self {
-            Wrong::Missing(Want::Opening) => 1,
-            Wrong::Missing(Want::Task) => 2,
-            Wrong::Missing(Want::More) => 3,
-            Wrong::Missing(Want::Chain) => 4,
-            Wrong::Missing(Want::Edition) => 5,
-            Wrong::Missing(Want::EditionEnd) => 6,
-            Wrong::Missing(Want::Name) => 7,
-            Wrong::Missing(Want::Period) => 8,
-            Wrong::Missing(Want::PeriodNumber) => 9,
-            Wrong::Missing(Want::Budget) => 10,
-            Wrong::Missing(Want::BudgetNumber) => 11,
-            Wrong::Missing(Want::Rank) => 12,
-            Wrong::Missing(Want::RankNumber) => 13,
-            Wrong::Missing(Want::TaskEnd) => 14,
-            Wrong::Missing(Want::Limit) => 15,
-            Wrong::Missing(Want::LimitNumber) => 16,
-            Wrong::Missing(Want::Entry) => 17,
-            Wrong::Missing(Want::Entries) => 18,
+            Wrong::Missing(want) => want as u8,
             Wrong::NameTwice => 19,
             Wrong::NameUnknown => 20,
             Wrong::RankTooGreat => 21,

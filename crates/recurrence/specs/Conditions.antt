@@ -6,7 +6,11 @@ use Rattle.theory.specs.Model.Chain.{Chain, outranked}
 use Rattle.theory.specs.Model.Recurrence.{quotient, quick_response}
 use Rattle.theory.specs.Analysis.Largest.{pair_bound}
 use Rattle.sheet.specs.declared.Chain.{Chain as SheetChain}
+use Rattle.answers.specs.Answers.{fine}
 use Rattle.sheet.specs.declared.Sheet.{Sheet}
+use Rattle.sheet.specs.declared.sound.Judged.{Judged}
+use Rattle.sheet.specs.Lateness.{lateness}
+use Rattle.recurrence.specs.Calls.{passing_greatest, responses_in}
 use Rattle.sheet.specs.Tasks.{tasks_of, first_of, rest_of}
 
 -- A period is at most 100,000; then a task claims at most 200,000 of so many ticks, and sixteen with a budget at most 3,300,000; a pair adds
@@ -42,6 +46,12 @@ claim_in outranking own x = own + sum_by (λ t. t.budget * quotient x t.period) 
 pub record Responding (s : Sheet) (responses : List ℕ) : Type 0 where
   pub response_is : (i : ℕ) → i < s.count → get_or responses i 0 ≡ quick_response (tasks_of s) i
   pub response_most : (i : ℕ) → i < s.count → quick_response (tasks_of s) i ≤ period (tasks_of s) i
+
+-- They are answered of this sheet: none passes its period, so there is nothing against it.
+pub record Timely (s t : Judged) (responses : List ℕ) : Type 0 where
+  pub same : t ≡ s
+  pub each_is : responses ≡ responses_in s.sheet
+  pub none_late : lateness (passing_greatest (tasks_of s.sheet) (length (tasks_of s.sheet))) ≡ fine
 
 -- A chain of the sheet's tasks.
 pub record ChainOn (s : Sheet) (chain : List ℕ) : Type 0 where

@@ -6,13 +6,14 @@
 mod answer;
 
 ghost use Rattle.std.specs.Prelude.{◌≡◌, ◌≤◌, ◌<◌, All, length};
+ghost use Rattle.std.specs.Result.{IfOk, IfErr};
 ghost use Rattle.theory.specs.Model.Recurrence.{quick_response};
-ghost use Rattle.answers.specs.Answers.{told};
+ghost use Rattle.answers.specs.Answers.{refusal, told};
 ghost use Rattle.sheet.specs.Tasks.{tasks_of, chain_count};
 ghost use Rattle.sheet.specs.TaskLaws.{Allowed};
 ghost use Rattle.sheet.specs.Lateness.{lateness};
 ghost use Rattle.recurrence.specs.Calls.{passing_greatest, bound_by, bounds_of, responses_in, bounds_to};
-ghost use Rattle.recurrence.specs.Conditions.{most_period, higher, Gathered, claim_in, Responding, ChainOn, ChainIn, entries_of};
+ghost use Rattle.recurrence.specs.Conditions.{most_period, higher, Gathered, claim_in, Responding, ChainOn, ChainIn, entries_of, Timely};
 ghost use Rattle.recurrence.specs.Promises.{BoundPromise, PairBoundPromise, SuitePromise};
 
 pub use answer::{Bounds, QuickBound, QuickSuite};
@@ -130,49 +131,68 @@ pub fn pair_bound(producer: Task, consumer: Task, response: u32) -> u64
     }
 }
 
-// The quick bound of a chain: what each pair adds, and the last task's response.
-fn bound_along(s: Judged, chain: &[u8], responses: &[u32; 16]) -> u32
-    requires responding { Responding s.sheet responses.now }
-    requires chain_on { ChainOn s.sheet chain.now }
-    ensures { result ≡ bound_by (tasks_of s.sheet) chain.now }
-{
-    let mut ticks = 0u32;
-    let mut p = chain[0] as usize;
-    for entry in &chain[1..] {
-        let c = *entry as usize;
-        ticks += pair_bound(s.sheet.tasks[p], s.sheet.tasks[c], responses[p]) as u32;
-        p = c;
-    }
-    ticks + responses[p]
+// The response of each task of a sheet that is judged fine, in its place; none passes its period.
+#[derive(Clone, Copy)]
+struct Responses {
+    judged: Judged,
+    each: [u32; 16],
+    ghost responding: { Responding judged.sheet each },
 }
 
-// The same with the bound from a flag on, which waits for its job up to T − 1 of the first task.
-fn bounds_of(s: Judged, chain: Chain, responses: &[u32; 16]) -> Bounds
-    requires responding { Responding s.sheet responses.now }
-    requires chain_in { ChainIn s.sheet chain }
-    ensures { result ≡ bounds_of (tasks_of s.sheet) (entries_of chain) }
-{
-    let entries = chain.entries;
-    let first = entries[0] as usize;
-    let sampling_bound = bound_along(s, &entries[..chain.length as usize], responses);
-    let bound = sampling_bound + (s.sheet.tasks[first].period - 1);
-    Bounds {
-        sampling_bound,
-        bound,
+impl Responses {
+    // The quick bound of a chain: what each pair adds, and the last task's response.
+    fn bound_along(&self, chain: &[u8]) -> u32
+        requires { ChainOn self.now.judged.sheet chain.now }
+        ensures { result ≡ bound_by (tasks_of self.now.judged.sheet) chain.now }
+    {
+        let tasks = &self.judged.sheet.tasks;
+        let mut ticks = 0u32;
+        let mut p = chain[0] as usize;
+        for entry in &chain[1..] {
+            let c = *entry as usize;
+            ticks += pair_bound(tasks[p], tasks[c], self.each[p]) as u32;
+            p = c;
+        }
+        ticks + self.each[p]
+    }
+
+    // The same with the bound from a flag on, which waits for its job up to T − 1 of the first task.
+    fn bounds_of(&self, chain: Chain) -> Bounds
+        requires { ChainIn self.now.judged.sheet chain }
+        ensures { result ≡ bounds_of (tasks_of self.now.judged.sheet) (entries_of chain) }
+    {
+        let entries = chain.entries;
+        let first = entries[0] as usize;
+        let sampling_bound = self.bound_along(&entries[..chain.length as usize]);
+        let bound = sampling_bound + (self.judged.sheet.tasks[first].period - 1);
+        Bounds {
+            sampling_bound,
+            bound,
+        }
+    }
+
+    // The bounds of each chain.
+    fn each_bounds(&self) -> [Bounds; 8]
+        ensures { result ≡ bounds_to self.now.judged.sheet (chain_count self.now.judged.sheet) }
+    {
+        let sheet = self.judged.sheet;
+        let n = sheet::chain_count(sheet) as usize;
+        let mut chains = [Bounds::default(); 8];
+        for c in 0..n {
+            chains[c] = self.bounds_of(sheet.chains[c]);
+        }
+        chains
     }
 }
 
-// The bounds of each chain.
-fn each_bounds(s: Judged, responses: &[u32; 16]) -> [Bounds; 8]
-    requires { Responding s.sheet responses.now }
-    ensures { result ≡ bounds_to s.sheet (chain_count s.sheet) }
+// The responses, or 15 where one passes its task's period.
+fn respond(s: Judged) -> Result<Responses, Refusal>
+    ensures ok { IfOk result (λ x. Timely s x.judged x.each) }
+    ensures err { IfErr result (λ r. lateness (passing_greatest (tasks_of s.sheet) (length (tasks_of s.sheet))) ≡ refusal r) }
 {
-    let n = sheet::chain_count(s.sheet) as usize;
-    let mut chains = [Bounds::default(); 8];
-    for c in 0..n {
-        chains[c] = bounds_of(s, s.sheet.chains[c], responses);
-    }
-    chains
+    let each = each_response(s);
+    passing(s, &each)?;
+    Ok(Responses { judged: s, each })
 }
 
 // The quick bound of a chain with no table, and the response of each task in its place.
@@ -181,10 +201,12 @@ pub fn bound(s: Sheet, number: u8) -> Result<QuickBound, Refusal>
 {
     let judged = sheet::judged(s)?;
     let chain = sheet::chain_of(judged, number)?;
-    let responses = each_response(judged);
-    passing(judged, &responses)?;
-    let bounds = bounds_of(judged, chain, &responses);
-    Ok(QuickBound { bounds, responses })
+    let responses = respond(judged)?;
+    let bounds = responses.bounds_of(chain);
+    Ok(QuickBound {
+        bounds,
+        responses: responses.each,
+    })
 }
 
 // The quick bounds of every chain, and the response of each task, from one search.
@@ -192,8 +214,10 @@ pub fn suite(s: Sheet) -> Result<QuickSuite, Refusal>
     ensures { SuitePromise s result }
 {
     let judged = sheet::judged(s)?;
-    let responses = each_response(judged);
-    passing(judged, &responses)?;
-    let chains = each_bounds(judged, &responses);
-    Ok(QuickSuite { responses, chains })
+    let responses = respond(judged)?;
+    let chains = responses.each_bounds();
+    Ok(QuickSuite {
+        responses: responses.each,
+        chains,
+    })
 }

@@ -1,14 +1,15 @@
 -- Each judgement is made in its turn, the fields, the chain's number and then the values against their periods; after that the bound is added up.
-use Rattle.std.proofs.Common.{◌≡◌, sym, ap, ◌∙◌, subst}
+use Rattle.std.proofs.Common.{◌≡◌, sym, ap, ap₂, ◌∙◌, subst}
 use Rattle.std.proofs.lemmas.Result.{err_from_is_err_and}
 use Rattle.answers.specs.Answers.{given, refusal, fine}
 use Rattle.sheet.specs.Calls.{judge_of}
-use Rattle.sheet.specs.LatenessLaws.{lateness_fine}
+use Rattle.sheet.specs.declared.sound.Judged.{Judged}
+use Rattle.sheet.specs.declared.Chain.{Chain}
 use Rattle.sheet.specs.Tasks.{tasks_of, lacks, chain_at}
 use Rattle.recurrence.specs.Calls.{bounds_of, quick_bound_of}
 use Rattle.recurrence.specs.Conditions.{ChainIn, entries_of}
 use Rattle.recurrence.specs.BoundLaws.{chain_in}
-use Rattle.recurrence.specs.CallLaws.{judged_fine, judged_refused, sheet_judged, bound_refused, bound_lacking, bound_passing, bound_given, quick_fits, none_responding}
+use Rattle.recurrence.specs.CallLaws.{judged_fine, judged_refused, sheet_judged, bound_refused, bound_lacking, bound_passing, bound_given, quick_fits}
 use Rattle.recurrence.proofs.bound.Goals.{In_ok-judged, In_ok-chain}
 use Rattle.recurrence.proofs.bound.Goals as goal
 
@@ -34,26 +35,21 @@ returns-in_err-chain c =
     let p = err_from_is_err_and c.from_residual-in_err-chain.result c.from_residual-in_err-chain.ensures.1 in
     rw (p.1, p.2) (subst (λ s. refusal r ≡ quick_bound_of s number) j.1 (bound_lacking s number r j.0 (judged_refused (lacks s number) (chain_at s number) r c.in_err-chain.ensures)))
 
-pub returns-in_err-passing : goal.returns-in_err-passing
-returns-in_err-passing c =
+pub returns-in_err-responses : goal.returns-in_err-responses
+returns-in_err-responses c =
     let s = c.in_ok-judged.judged.sheet in
     let number = c.args.number in
-    let r = c.in_err-passing.field-0.0 in
-    let j = sheet_is (goal.at.returns-in_err-passing c).In_ok-judged in
-    let k = chain_is (goal.at.returns-in_err-passing c).In_ok-chain in
-    let p = err_from_is_err_and c.from_residual-in_err-passing.result c.from_residual-in_err-passing.ensures.1 in
-    rw (p.1, p.2) (subst (λ s. refusal r ≡ quick_bound_of s number) j.1 (bound_passing s number r j.0 k.0 (sym c.in_err-passing.ensures)))
+    let r = c.in_err-responses.field-0.0 in
+    let j = sheet_is (goal.at.returns-in_err-responses c).In_ok-judged in
+    let k = chain_is (goal.at.returns-in_err-responses c).In_ok-chain in
+    let p = err_from_is_err_and c.from_residual-in_err-responses.result c.from_residual-in_err-responses.ensures.1 in
+    rw (p.1, p.2) (subst (λ s. refusal r ≡ quick_bound_of s number) j.1 (bound_passing s number r j.0 k.0 c.in_err-responses.ensures.err))
 
-pub bounds_of-bounds-requires-clause-responding : goal.bounds_of-bounds-requires-clause-responding
-bounds_of-bounds-requires-clause-responding c =
+pub bounds_of-bounds-requires : goal.bounds_of-bounds-requires
+bounds_of-bounds-requires c =
     let x = c.in_ok-judged.judged in
-    none_responding x.sheet x.sound c.each_response-responses.ensures (lateness_fine _ (sym c.in_ok-passing.ensures))
-
-pub bounds_of-bounds-requires-clause-chain_in : goal.bounds_of-bounds-requires-clause-chain_in
-bounds_of-bounds-requires-clause-chain_in c =
-    let x = c.in_ok-judged.judged in
-    let k = chain_is (goal.at.bounds_of-bounds-requires-clause-chain_in c).In_ok-chain in
-    subst (ChainIn x.sheet) (sym k.1) (chain_in x.sound c.args.number k.0)
+    let k = chain_is (goal.at.bounds_of-bounds-requires c).In_ok-chain in
+    subst (λ (t : Judged). ChainIn t.sheet c.in_ok-chain.chain) (sym c.in_ok-responses.ensures.ok.same) (subst (ChainIn x.sheet) (sym k.1) (chain_in x.sound c.args.number k.0))
 
 pub returns : goal.returns
 returns c =
@@ -61,6 +57,7 @@ returns c =
     let number = c.args.number in
     let j = sheet_is (goal.at.returns c).In_ok-judged in
     let k = chain_is (goal.at.returns c).In_ok-chain in
-    let bounds = c.bounds_of-bounds.ensures ∙ ap (λ chain. bounds_of (tasks_of s) (entries_of chain)) k.1 in
-    subst (λ s. given (record { bounds = c.bounds_of-bounds.result; responses = c.each_response-responses.result }) ≡ quick_bound_of s number) j.1
-    (bound_given s number (quick_fits s number j.0 k.0 (sym c.in_ok-passing.ensures) ∙ ap given (sym bounds)) c.each_response-responses.ensures)
+    let timely = c.in_ok-responses.ensures.ok in
+    let bounds = c.bounds_of-bounds.ensures ∙ ap₂ (λ (t : Judged) (chain : Chain). bounds_of (tasks_of t.sheet) (entries_of chain)) timely.same k.1 in
+    subst (λ s. given (record { bounds = c.bounds_of-bounds.result; responses = c.in_ok-responses.responses.each }) ≡ quick_bound_of s number) j.1
+    (bound_given s number (quick_fits s number j.0 k.0 timely.none_late ∙ ap given (sym bounds)) timely.each_is)

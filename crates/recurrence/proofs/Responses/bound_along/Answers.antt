@@ -4,25 +4,25 @@ use Rattle.sheet.specs.Tasks.{tasks_of}
 use Rattle.recurrence.specs.Calls.{bound_by}
 use Rattle.recurrence.specs.Conditions.{most_bound}
 use Rattle.recurrence.specs.BoundLaws.{bound_from, bound_start, pair_taken, pairs_taken, entry_is}
-use Rattle.recurrence.proofs.bound_along.Goals.{After-pair_bound, After-loop-entry}
-use Rattle.recurrence.proofs.bound_along.Goals as goal
+use Rattle.recurrence.proofs.Responses.bound_along.Goals.{After-pair_bound, After-loop-entry}
+use Rattle.recurrence.proofs.Responses.bound_along.Goals as goal
 
 pub loop-entry-init : goal.loop-entry-init
-loop-entry-init c = omega (arith, bound_start c.args.s.sheet c.args.chain.now)
+loop-entry-init c = omega (arith, bound_start c.args.self.now.judged.sheet c.args.chain.now)
 
-pub bounds-s-c : goal.bounds-s-c
-bounds-s-c c =
+pub bounds-tasks-c : goal.bounds-tasks-c
+bounds-tasks-c c =
     let next = entry_is c.args.chain.now c.loop-entry.entry-index c.loop-entry-test.true in
-    omega (arith, next, c.requires.chain_on.entry_below (c.loop-entry.entry-index + 1) next.0, c.args.s.sound.count_most)
+    omega (arith, next, c.requires.entry_below (c.loop-entry.entry-index + 1) next.0, c.args.self.now.judged.sound.count_most)
 
 -- A pair more.
 taken : (c : After-pair_bound) → let l = c.loop-entry in
-    (l.ticks + c.pair_bound.result + bound_from c.args.s.sheet c.args.chain.now (l.entry-index + 1) ≡ bound_by (tasks_of c.args.s.sheet) c.args.chain.now)
+    (l.ticks + c.pair_bound.result + bound_from c.args.self.now.judged.sheet c.args.chain.now (l.entry-index + 1) ≡ bound_by (tasks_of c.args.self.now.judged.sheet) c.args.chain.now)
     × (l.ticks + c.pair_bound.result ≤ most_bound)
 taken c =
     let l = c.loop-entry in
     let next = entry_is c.args.chain.now l.entry-index c.loop-entry-test.true in
-    pair_taken c.args.s.sound c.requires.responding c.requires.chain_on l.entry-index next.0 l.ticks l.invariant.at next.1 l.invariant.so_far c.pair_bound.ensures
+    pair_taken c.args.self.now.judged.sound c.args.self.now.responding c.requires l.entry-index next.0 l.ticks l.invariant.at next.1 l.invariant.so_far c.pair_bound.ensures
 
 pub overflow_cast-ticks : goal.overflow_cast-ticks
 overflow_cast-ticks c = omega (arith, taken (goal.at.overflow_cast-ticks c).After-pair_bound)
@@ -39,13 +39,13 @@ loop-entry-preserved c =
 
 -- All pairs are taken.
 all_taken : (c : After-loop-entry) → let l = c.loop-entry in
-    (l.ticks + get_or c.args.responses.now l.p 0 ≡ bound_by (tasks_of c.args.s.sheet) c.args.chain.now)
-    × (l.ticks + get_or c.args.responses.now l.p 0 ≤ most_bound)
+    (l.ticks + get_or c.args.self.now.each l.p 0 ≡ bound_by (tasks_of c.args.self.now.judged.sheet) c.args.chain.now)
+    × (l.ticks + get_or c.args.self.now.each l.p 0 ≤ most_bound)
 all_taken c =
     let l = c.loop-entry in
     let chain = c.args.chain.now in
-    pairs_taken c.args.s.sound c.requires.responding c.requires.chain_on l.entry-index l.ticks
-    (omega (arith, c.requires.chain_on.some, length-take (length chain - 1) (drop 1 chain), length-drop 1 chain)) l.invariant.at l.invariant.so_far
+    pairs_taken c.args.self.now.judged.sound c.args.self.now.responding c.requires l.entry-index l.ticks
+    (omega (arith, c.requires.some, length-take (length chain - 1) (drop 1 chain), length-drop 1 chain)) l.invariant.at l.invariant.so_far
 
 pub overflow_add-result : goal.overflow_add-result
 overflow_add-result c = omega (arith, all_taken (goal.at.overflow_add-result c).After-loop-entry)

@@ -1,9 +1,8 @@
 -- The pass's state as the code holds it.
-use Rattle.std.proofs.Common.{◌≡◌, ◌≢◌, refl, sym, ap, ap₂, ◌∙◌, subst, add-one, add-zero, eq-eqb, ne_eqb, eqb-true, eqb, not, true≢false, leb, le-leb, arith, List, ℕ, ◌+◌, ◌-◌, ◌≤◌, ◌<◌, length, get_or, set, get_or-set_same, get_or-set_other, replicate, Bool, true, false, Option, Some, None}
+use Rattle.std.proofs.Common.{◌≡◌, ◌≢◌, refl, sym, ap, ap₂, ◌∙◌, subst, add-one, add-zero, eq-eqb, ne_eqb, eqb-true, eqb, not, true≢false, leb, le-leb, arith, List, ℕ, ◌+◌, ◌-◌, ◌≤◌, ◌<◌, length, get_or, set, get_or-set_same, get_or-set_other, Bool, true, false, Option, Some, None}
 use mathlib.Core.Path.{fun_ext}
-use native.Mathlib.Decide.{ℕ_discrete, dec_lt}
+use native.Mathlib.Decide.{ℕ_discrete}
 use borrow.Author.Tests.{lt-leb}
-use lib.ListN.{get_or-replicate, length-replicate, get_or-eq_default}
 use Rattle.std.specs.Option.{option_eq}
 use Rattle.theory.specs.declared.Task.{Task}
 use Rattle.theory.specs.Model.Schedule.{Slot, idle, busy, rank, release}
@@ -15,7 +14,7 @@ use Rattle.clocklog.specs.Format.{kind_in, event}
 use Rattle.night.specs.declared.state.Progress.{Progress}
 use Rattle.night.specs.Pass.{State, Step, broken, on, turn, put, share, goes_on, quiet, stretched, wait, accept, step}
 use Rattle.night.specs.PassLaws.{put_same, put_other}
-use Rattle.night.specs.Conditions.{slot, known, begun, ended_in, ran_in}
+use Rattle.night.specs.Conditions.{slot, begun, ended_in, ran_in}
 
 -- A field of a list's entries, of which one is new
 module _ {A : Type 0} (f : A → ℕ) (d : A) (xs : List A) (i : ℕ) (v : A) where
@@ -36,14 +35,7 @@ module _ {A : Type 0} (f : A → ℕ) (d : A) (xs : List A) (i : ℕ) (v : A) wh
       go j (yes e) = subst (λ j. f (get_or (set xs i v) j d) ≡ f (get_or xs j d)) (sym e) (ap f (get_or-set_same xs i v d l) ∙ h)
       go j (no e) = ap f (get_or-set_other xs i j v d e)
 
--- and all of them, of a list of one entry
-pub field_same : {A : Type 0} (f : A → ℕ) (d : A) (n : ℕ) → ◌≡◌ {A = ℕ → ℕ} (λ j. f (get_or (replicate n d) j d)) (λ j. f d)
-field_same f d n = fun_ext (λ j. ap f (go j (dec_lt j n)))
-  where
-    go : (j : ℕ) → Dec (j < n) → get_or (replicate n d) j d ≡ d
-    go j (yes l) = get_or-replicate n j d d l
-    go j (no l) = get_or-eq_default (replicate n d) d {n = j} (omega (arith, length-replicate n d))
-
+-- A number put where it stands changes nothing.
 pub put_kept : (f : ℕ → ℕ) (i : ℕ) → put f i (f i) ≡ f
 put_kept f i = fun_ext (λ j. go j (ℕ_discrete j i))
   where
@@ -176,6 +168,3 @@ slot_same (Some i) j h = go (eqb i j) refl h
     go : (b : Bool) → eqb i j ≡ b → not b ≡ false → busy i ≡ busy j
     go true e q = ap busy (eqb-true i j e)
     go false e q = absurd (true≢false q)
-
-pub known_at : (count : ℕ) (x : Option ℕ) → known count x → (i : ℕ) → x ≡ Some i → i < count
-known_at count x h i e = subst (known count) e h

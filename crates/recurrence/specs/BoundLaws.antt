@@ -93,10 +93,10 @@ module _ {s : Sheet} (ok : Sound s) {responses : List ℕ} (responding : Respond
   )
 
   -- A pair, by the tasks in its places.
-  pair_is : (p c : ℕ) → p < s.count → c < s.count → pair_added (get_or s.tasks p none) (get_or s.tasks c none) (get_or responses p 0) ≡ pair_of s p c
-  pair_is p c kp kc =
-      ap₂ (λ x y. pair_added x y (get_or responses p 0)) (sym (task_at_lem _ ok p kp)) (sym (task_at_lem _ ok c kc))
-      ∙ ap (pair_added (get_or (tasks_of s) p none) (get_or (tasks_of s) c none)) (responding.response_is p kp)
+  pub pair_at : (p c : ℕ) → p < s.count → c < s.count → pair_of s p c ≡ pair_added (get_or s.tasks p none) (get_or s.tasks c none) (get_or responses p 0)
+  pair_at p c kp kc =
+      ap (pair_added (get_or (tasks_of s) p none) (get_or (tasks_of s) c none)) (sym (responding.response_is p kp))
+      ∙ ap₂ (λ x y. pair_added x y (get_or responses p 0)) (task_at_lem _ ok p kp) (task_at_lem _ ok c kc)
 
   -- A pair is taken from what is left, so the sum stays small.
   pub pair_taken : {chain : List ℕ} → ChainOn s chain → (j : ℕ) → j + 1 < length chain → {p c : ℕ} (ticks : ℕ) {added : ℕ}
@@ -108,7 +108,7 @@ module _ {s : Sheet} (ok : Sound s) {responses : List ℕ} (responding : Respond
       pair : added ≡ pair_of s (get_or chain j 0) (get_or chain (j + 1) 0)
       pair =
           is ∙ ap₂ (λ p c. pair_added (get_or s.tasks p none) (get_or s.tasks c none) (get_or responses p 0)) at next
-          ∙ pair_is (get_or chain j 0) (get_or chain (j + 1) 0) (on.entry_below j (omega arith)) (on.entry_below (j + 1) l)
+          ∙ sym (pair_at (get_or chain j 0) (get_or chain (j + 1) 0) (on.entry_below j (omega arith)) (on.entry_below (j + 1) l))
 
       sum : ticks + added + bound_from s chain (j + 1) ≡ bound_by (tasks_of s) chain
       sum = omega (arith, e, pair, bound_turn s chain j l)

@@ -23,7 +23,7 @@ use Rattle.sheet.specs.TaskLaws.{tasks_length, rank_at_lem, period_at}
 use Rattle.recurrence.specs.declared.answer.Bounds.{Bounds}
 use Rattle.recurrence.specs.declared.answer.QuickBound.{QuickBound}
 use Rattle.recurrence.specs.declared.answer.QuickSuite.{QuickSuite}
-use Rattle.recurrence.specs.Calls.{passes, passing_greatest, bounds_of, quick_of, quick_bound_of, suite_of, quick_suite_of, responses_in, bounds_to}
+use Rattle.recurrence.specs.Calls.{passes, passing_greatest, bounds_of, quick_of, quick_bound_of, suite_of, quick_suite_of, responses_in, no_responses, responses_after, bounds_to}
 use Rattle.recurrence.specs.Conditions.{Responding}
 
 -- ---- what a call before it answered
@@ -58,18 +58,14 @@ module _ (s : Sheet) (number : ℕ) where
       ap₂ (λ j k. also j (also k (also passing (given (bounds_of (tasks_of s) (chain_of s number)))))) e n
       ∙ ap (λ l. also j (also k (also l (given (bounds_of (tasks_of s) (chain_of s number)))))) q
 
-  -- A refusal is handed up,
-  refused_by : (r : Refusal) → quick_of s number ≡ refusal r → refusal r ≡ quick_bound_of s number
-  refused_by r e = sym (ap (λ a. after a (λ b. given (record { bounds = b; responses = responses_in s }))) e)
+  pub quick_refused : (r : Refusal) → judge_of s ≡ refusal r → quick_of s number ≡ refusal r
+  quick_refused r e = quick_by e refl refl
 
-  pub bound_refused : (r : Refusal) → judge_of s ≡ refusal r → refusal r ≡ quick_bound_of s number
-  bound_refused r e = refused_by r (quick_by e refl refl)
+  pub quick_lacking : (r : Refusal) → judge_of s ≡ fine → lacks s number ≡ refusal r → quick_of s number ≡ refusal r
+  quick_lacking r e n = quick_by e n refl
 
-  pub bound_lacking : (r : Refusal) → judge_of s ≡ fine → lacks s number ≡ refusal r → refusal r ≡ quick_bound_of s number
-  bound_lacking r e n = refused_by r (quick_by e n refl)
-
-  pub bound_passing : (r : Refusal) → judge_of s ≡ fine → lacks s number ≡ fine → passing ≡ refusal r → refusal r ≡ quick_bound_of s number
-  bound_passing r e n q = refused_by r (quick_by e n q)
+  pub quick_passing : (r : Refusal) → judge_of s ≡ fine → lacks s number ≡ fine → passing ≡ refusal r → quick_of s number ≡ refusal r
+  quick_passing r e n q = quick_by e n q
 
   pub quick_passing_task : {i : ℕ} → judge_of s ≡ fine → lacks s number ≡ fine → passing_greatest (tasks_of s) (length (tasks_of s)) ≡ busy i
       → quick_of s number ≡ refused 15 (i ∷ [])
@@ -77,6 +73,14 @@ module _ (s : Sheet) (number : ℕ) where
 
   pub quick_fits : judge_of s ≡ fine → lacks s number ≡ fine → passing ≡ fine → quick_of s number ≡ given (bounds_of (tasks_of s) (chain_of s number))
   quick_fits e n q = quick_by e n q
+
+  -- A refusal stands alone,
+  pub refused_alone : (r : Refusal) → quick_of s number ≡ refusal r → refusal r ≡ quick_bound_of s number
+  refused_alone r e = sym (ap (λ a. after a (λ b. given (record { bounds = b; responses = responses_in s }))) e)
+
+  -- for which there are no responses,
+  pub responses_none : (r : Refusal) → quick_of s number ≡ refusal r → no_responses ≡ responses_after (quick_of s number) s
+  responses_none r e = ap (λ a. responses_after a s) (sym e)
 
 -- and the bounds come with the responses.
 pub bound_given : (s : Sheet) (number : ℕ) {b : Bounds} {xs : List ℕ} → quick_of s number ≡ given b → xs ≡ responses_in s
@@ -102,19 +106,22 @@ module _ (s : Sheet) where
   abbrev all : QuickSuite
   all = record { responses = responses_in s; chains = bounds_to s (chain_count s) }
 
-  pub suite_refused : (r : Refusal) → judge_of s ≡ refusal r → refusal r ≡ quick_suite_of s
+  pub suite_refused : (r : Refusal) → judge_of s ≡ refusal r → suite_of s ≡ refusal r
   unfolding suite_of
-  suite_refused r e = sym (ap (λ j. also (also j late) (given all)) e)
+  suite_refused r e = ap (λ j. also j late) e
 
-  pub suite_late : (r : Refusal) → judge_of s ≡ fine → late ≡ refusal r → refusal r ≡ quick_suite_of s
+  pub suite_judged : judge_of s ≡ fine → suite_of s ≡ late
   unfolding suite_of
-  suite_late r e q = sym (ap₂ (λ j k. also (also j k) (given all)) e q)
+  suite_judged e = ap (λ j. also j late) e
 
-  pub suite_given : {xs : List ℕ} {bounds : List Bounds} → judge_of s ≡ fine → late ≡ fine → xs ≡ responses_in s → bounds ≡ bounds_to s (chain_count s)
+  -- A refusal stands alone, and the bounds come with the responses.
+  pub suite_alone : (r : Refusal) → suite_of s ≡ refusal r → refusal r ≡ quick_suite_of s
+  suite_alone r e = sym (ap (λ j. also j (given all)) e)
+
+  pub suite_given : {xs : List ℕ} {bounds : List Bounds} → suite_of s ≡ fine → xs ≡ responses_in s → bounds ≡ bounds_to s (chain_count s)
       → given (record { responses = xs; chains = bounds }) ≡ quick_suite_of s
-  unfolding suite_of
-  suite_given e q is are =
-      ap₂ (λ xs bounds. given (record { responses = xs; chains = bounds })) is are ∙ sym (ap₂ (λ j k. also (also j k) (given all)) e q)
+  suite_given e is are =
+      ap₂ (λ xs bounds. given (record { responses = xs; chains = bounds })) is are ∙ sym (ap (λ j. also j (given all)) e)
 
   -- What is given of a chain that the sheet has.
   pub quick_known : (number : ℕ) → lacks s number ≡ fine → quick_of s number ≡ also (suite_of s) (given (bounds_of (tasks_of s) (chain_of s number)))

@@ -1,9 +1,7 @@
 -- The tasks that outrank one, and what is claimed by these.
-use Rattle.std.specs.Prelude.{◌≡◌, Bool, true, false, cond, List, [], ◌∷◌, ℕ, zero, suc, ◌+◌, ◌-◌, ◌*◌, ◌≤◌, ◌<◌, ltb, All, filter, length, get_or, sum_by, take}
-use Rattle.std.specs.Int.{div_ceil}
+use Rattle.std.specs.Prelude.{◌≡◌, Bool, true, false, cond, List, [], ◌∷◌, ℕ, zero, suc, ◌+◌, ◌*◌, ◌≤◌, ◌<◌, ltb, All, filter, length, get_or, sum_by, take}
 use Rattle.std.proofs.Common.{refl, sym, ap, ap₂, ◌∙◌, subst, arith}
-use Rattle.std.proofs.Math.Nat.{div-eq_of_lt-le, mul-le-mul_right}
-use Rattle.std.proofs.lemmas.Grind.{div_ceil_times}
+use Rattle.std.proofs.Math.Nat.{mul-le-mul_right}
 use Rattle.std.proofs.lemmas.List.{take_all}
 use Rattle.std.proofs.lemmas.List.Elements.{filter_more, All-filter, All-from_get_or}
 use Rattle.std.proofs.lemmas.List.Sums.{count_by-le-length, length-filter, sum_by-append, sum_by-le, sum_by-take-le, sum_by_more}
@@ -17,11 +15,6 @@ use Rattle.sheet.specs.Sound.{Sound}
 use Rattle.sheet.specs.Tasks.{tasks_of}
 use Rattle.sheet.specs.TaskLaws.{Allowed, budget_at, rank_at_lem, task_allowed, tasks_length}
 use Rattle.recurrence.specs.Conditions.{most_period, most_share, most_claim, higher, claim_in}
-
--- The quotient rounded up, as the code divides.
-pub quotient_is : (x T : ℕ) → 0 < T → div_ceil x T ≡ quotient x T
-unfolding quotient
-quotient_is x T positive = let near = div_ceil_times x T positive in sym (div-eq_of_lt-le T {m = x + (T - 1)} (omega arith) (omega arith))
 
 -- ---- the tasks that outrank one
 

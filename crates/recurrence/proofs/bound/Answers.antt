@@ -9,7 +9,7 @@ use Rattle.sheet.specs.Tasks.{tasks_of, lacks, chain_at}
 use Rattle.recurrence.specs.Calls.{bounds_of, quick_bound_of}
 use Rattle.recurrence.specs.Conditions.{ChainIn, entries_of}
 use Rattle.recurrence.specs.BoundLaws.{chain_in}
-use Rattle.recurrence.specs.CallLaws.{judged_fine, judged_refused, sheet_judged, bound_refused, bound_lacking, bound_passing, bound_given, quick_fits}
+use Rattle.recurrence.specs.CallLaws.{judged_fine, judged_refused, sheet_judged, quick_refused, quick_lacking, quick_passing, refused_alone, bound_given, quick_fits}
 use Rattle.recurrence.proofs.bound.Goals.{In_ok-judged, In_ok-chain}
 use Rattle.recurrence.proofs.bound.Goals as goal
 
@@ -23,8 +23,9 @@ chain_is c = judged_fine (lacks c.in_ok-judged.judged.sheet c.args.number) c.in_
 
 pub returns-in_err-judged : goal.returns-in_err-judged
 returns-in_err-judged c =
+    let r = c.in_err-judged.field-0.0 in
     let p = err_from_is_err_and c.from_residual.result c.from_residual.ensures.1 in
-    rw (p.1, p.2) (bound_refused c.args.s c.args.number c.in_err-judged.field-0.0 (judged_refused (judge_of c.args.s) c.args.s c.in_err-judged.field-0.0 c.in_err-judged.ensures))
+    rw (p.1, p.2) (refused_alone c.args.s c.args.number r (quick_refused c.args.s c.args.number r (judged_refused (judge_of c.args.s) c.args.s r c.in_err-judged.ensures)))
 
 pub returns-in_err-chain : goal.returns-in_err-chain
 returns-in_err-chain c =
@@ -33,7 +34,7 @@ returns-in_err-chain c =
     let r = c.in_err-chain.field-0.0 in
     let j = sheet_is (goal.at.returns-in_err-chain c).In_ok-judged in
     let p = err_from_is_err_and c.from_residual-in_err-chain.result c.from_residual-in_err-chain.ensures.1 in
-    rw (p.1, p.2) (subst (λ s. refusal r ≡ quick_bound_of s number) j.1 (bound_lacking s number r j.0 (judged_refused (lacks s number) (chain_at s number) r c.in_err-chain.ensures)))
+    rw (p.1, p.2) (subst (λ s. refusal r ≡ quick_bound_of s number) j.1 (refused_alone s number r (quick_lacking s number r j.0 (judged_refused (lacks s number) (chain_at s number) r c.in_err-chain.ensures))))
 
 pub returns-in_err-responses : goal.returns-in_err-responses
 returns-in_err-responses c =
@@ -43,7 +44,7 @@ returns-in_err-responses c =
     let j = sheet_is (goal.at.returns-in_err-responses c).In_ok-judged in
     let k = chain_is (goal.at.returns-in_err-responses c).In_ok-chain in
     let p = err_from_is_err_and c.from_residual-in_err-responses.result c.from_residual-in_err-responses.ensures.1 in
-    rw (p.1, p.2) (subst (λ s. refusal r ≡ quick_bound_of s number) j.1 (bound_passing s number r j.0 k.0 c.in_err-responses.ensures.err))
+    rw (p.1, p.2) (subst (λ s. refusal r ≡ quick_bound_of s number) j.1 (refused_alone s number r (quick_passing s number r j.0 k.0 c.in_err-responses.ensures.err)))
 
 pub bounds_of-bounds-requires : goal.bounds_of-bounds-requires
 bounds_of-bounds-requires c =

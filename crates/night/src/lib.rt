@@ -338,7 +338,7 @@ pub fn replay(s: Sheet, log: &[u8], table: &mut [u32]) -> Result<Replayed, Refus
         return Err(Refusal::Room);
     }
     clocklog::judge(log, s.count)?;
-    let figures = chain::figures(s, CHAIN_ONE, &mut *table)?;
+    let figures = chain::figures(s, CHAIN_ONE, table)?;
     let judged = Judged { sheet: s };
     Ok(replayed(judged, log, figures.summary.sampling))
 }

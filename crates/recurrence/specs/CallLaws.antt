@@ -149,7 +149,7 @@ slot_of (Some i) = busy i
 
 -- It is the one of the first i.
 abbrev pub FoundTo : Sheet → ℕ → Option ℕ → Type 0
-FoundTo s i late = passing_greatest (tasks_of s) i ≡ slot_of late
+FoundTo s i best = passing_greatest (tasks_of s) i ≡ slot_of best
 
 pub found_known : (s : Sheet) (i j : ℕ) → FoundTo s i (Some j) → j < i
 found_known s i j e = (subst (IsGreatest (rank (tasks_of s)) (passes (tasks_of s)) i) e (greatest_is (rank (tasks_of s)) (passes (tasks_of s)) i)).0
@@ -168,33 +168,33 @@ module _ (s : Sheet) (ok : Sound s) {values : List ℕ} (are : values ≡ respon
     abbrev ts : List Task
     ts = tasks_of s
 
-    outranking_is : (late : Option ℕ) → FoundTo s i late → outranking (rank ts) i (slot_of late) ≡ cond (takes s i late) (busy i) (slot_of late)
+    outranking_is : (best : Option ℕ) → FoundTo s i best → outranking (rank ts) i (slot_of best) ≡ cond (takes s i best) (busy i) (slot_of best)
     outranking_is None f = refl
     outranking_is (Some j) f = rw (rank_at_lem _ ok i l, rank_at_lem _ ok j (omega (arith, found_known s i j f)))
 
-    step : (late : Option ℕ) {b t : Bool} → FoundTo s i late → passes ts i ≡ b → takes s i late ≡ t
-        → passing_greatest ts (i + 1) ≡ cond b (cond t (busy i) (slot_of late)) (slot_of late)
+    step : (best : Option ℕ) {b t : Bool} → FoundTo s i best → passes ts i ≡ b → takes s i best ≡ t
+        → passing_greatest ts (i + 1) ≡ cond b (cond t (busy i) (slot_of best)) (slot_of best)
     unfolding greatest
-    step late {b} f e t =
+    step best {b} f e t =
         ap (passing_greatest ts) (add-one i) ∙ ap₂ (λ b x. cond b (outranking (rank ts) i x) x) e f
-        ∙ ap (λ x. cond b x (slot_of late)) (outranking_is late f ∙ ap (λ t. cond t (busy i) (slot_of late)) t)
+        ∙ ap (λ x. cond b x (slot_of best)) (outranking_is best f ∙ ap (λ t. cond t (busy i) (slot_of best)) t)
 
     passing_is : (get_or s.tasks i none).period < get_or values i 0 → passes ts i ≡ true
     passing_is p = lt-ltb (period ts i) (quick_response ts i) (omega (arith, response_at i l, period_at _ ok i l))
 
     -- Task i passes its period and takes the place,
-    pub found_more : (late : Option ℕ) → FoundTo s i late → (get_or s.tasks i none).period < get_or values i 0 → takes s i late ≡ true
+    pub found_more : (best : Option ℕ) → FoundTo s i best → (get_or s.tasks i none).period < get_or values i 0 → takes s i best ≡ true
         → FoundTo s (i + 1) (Some i)
-    found_more late f p t = step late f (passing_is p) t
+    found_more best f p t = step best f (passing_is p) t
 
     -- or does not take it,
-    pub found_lower : (late : Option ℕ) → FoundTo s i late → (get_or s.tasks i none).period < get_or values i 0 → takes s i late ≡ false
-        → FoundTo s (i + 1) late
-    found_lower late f p t = step late f (passing_is p) t
+    pub found_lower : (best : Option ℕ) → FoundTo s i best → (get_or s.tasks i none).period < get_or values i 0 → takes s i best ≡ false
+        → FoundTo s (i + 1) best
+    found_lower best f p t = step best f (passing_is p) t
 
     -- or keeps its period.
-    pub found_same : (late : Option ℕ) → FoundTo s i late → get_or values i 0 ≤ (get_or s.tasks i none).period → FoundTo s (i + 1) late
-    found_same late f p = step late f (le-ltb (period ts i) (quick_response ts i) (omega (arith, response_at i l, period_at _ ok i l))) refl
+    pub found_same : (best : Option ℕ) → FoundTo s i best → get_or values i 0 ≤ (get_or s.tasks i none).period → FoundTo s (i + 1) best
+    found_same best f p = step best f (le-ltb (period ts i) (quick_response ts i) (omega (arith, response_at i l, period_at _ ok i l))) refl
 
   -- Where none passes, the values are responses.
   pub none_responding : passing_greatest (tasks_of s) (length (tasks_of s)) ≡ idle → Responding s values

@@ -23,11 +23,6 @@ returns-then-not-wait c =
     let at = event_time r.task r.kind r.at in
     record { tasks_same = w.tasks_same; leads = step_breaks s.tasks.now (state_of s) (event_of r) (omega (arith, at, c.if-r-self.false)) (w.leads ∙ ap (wait s.tasks.now (state_of s)) (sym at)) }
 
-pub start-requires : goal.start-requires
-start-requires c =
-    let w = c.if-not-wait.ensures in
-    (omega (arith, c.requires.0, ap (length {A = Task}) w.state_after.tasks_same), omega (arith, c.requires.1, w.at_record refl))
-
 pub finish-requires : goal.finish-requires
 finish-requires c =
     let s = c.args.self.now in

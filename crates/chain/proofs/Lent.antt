@@ -23,23 +23,13 @@ module _ (s : Sheet) (sound : Sound s) (number : ℕ) (known : lacks s number �
   long : length (chain_of s number) ≡ (chain_at s number).length
   long = chain_length _ sound number known (ap (λ (x : Chain). length x.entries) (sym is) ∙ whole)
 
-  pub lent_most : c.length ≤ length c.entries
-  lent_most = omega (arith, same, long, whole, chain_most _ sound number known)
-
-  pub lent_few : length entries ≤ 16
-  lent_few = omega (arith, ap length lent, chain_most _ sound number known)
-
   pub lent_some : 0 < length (chain_of s number)
   lent_some = omega (arith, long, sound.length_least (number - 1) (chain_place _ sound number known))
 
   pub lent_first : get_or c.entries 0 0 ≡ first_of (chain_of s number)
   lent_first = sym (get_or-take c.length c.entries 0 0 (omega (arith, same, long, lent_some))) ∙ ap (λ xs. get_or xs 0 0) lent
 
-  -- Its entries are tasks,
-  pub lent_entry : (j : ℕ) → j < length entries → get_or entries j 0 < length (tasks_of s)
-  lent_entry j l = subst (λ xs. j < length xs → get_or xs j 0 < length (tasks_of s)) (sym lent) (λ h. entry_listed _ sound number known j h) l
-
-  -- whose rows are its path.
+  -- The rows of its tasks are its path.
   pub lent_path : (rows path : List Row) → RowsOf (tasks_of s) (length (tasks_of s)) rows → length path ≡ 16 → Copied entries rows (length entries) path
       → (length (take (length entries) path) ≡ length (chain_of s number)) × PathOf (tasks_of s) (chain_of s number) (length (chain_of s number)) (take (length entries) path)
   lent_path rows path all room copied =

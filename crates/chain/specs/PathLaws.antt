@@ -103,15 +103,6 @@ handed_rest path k next p c l e q h =
     subst (λ rest. FirstHandedOver path rest k next) (ahead_rest path l ∙ sym (rest_part path))
     (handed_first path k next p c l e (q ∙ ap (λ xs. get_or xs 0 c) (rest_part path) ∙ get_or-drop 1 path 0 c) h)
 
-pub bound_rest : (path : List Row) (p c : Row) → 2 ≤ length path → p ≡ get_or path 0 p → c ≡ get_or (take (length path - 1) (drop 1 path)) 0 c
-    → bound_in path ≡ pair_in p c + bound_in (take (length path - 1) (drop 1 path))
-bound_rest path p c l e q = go path l e (q ∙ ap (λ xs. get_or xs 0 c) (rest_part path)) ∙ ap (λ xs. pair_in p c + bound_in xs) (sym (rest_part path))
-  where
-    go : (path : List Row) → 2 ≤ length path → p ≡ get_or path 0 p → c ≡ get_or (drop 1 path) 0 c → bound_in path ≡ pair_in p c + bound_in (drop 1 path)
-    go [] l e q = absurd (omega arith)
-    go (x ∷ []) l e q = absurd (omega arith)
-    go (x ∷ y ∷ rest) l e q = ap₂ (λ p c. pair_in p c + bound_in (y ∷ rest)) (sym e) (sym q)
-
 -- What is left is shorter where it was long.
 pub ahead_few : (path : List Row) → length path ≤ 16 → length (ahead path) ≤ 15
 ahead_few [] l = omega arith

@@ -19,15 +19,17 @@ pub row_within : (ts : List Task) (i : ℕ) → i < length ts → sum i (jobs ts
 unfolding all_jobs sum
 row_within ts i l = sum_grows (jobs ts) (suc i) (length ts) l
 
--- The part of a filled table that is the row of task i.
-pub row_cut : {ts : List Task} {table : List ℕ} → Taken ts → Holds ts table → (i : ℕ) → i < length ts → {from end : ℕ} → from ≡ sum i (jobs ts) → end ≡ from + jobs ts i
-    → {task : Task} → task ≡ get_or ts i none → RowOf ts i task (take (end - from) (drop from table))
-row_cut {ts} {table} taken holds i l {from} {end} e q t = record {
+pub row_left : {ts : List Task} {table : List ℕ} → Holds ts table → (i : ℕ) → i < length ts → {left : List ℕ} → left ≡ drop (sum i (jobs ts)) table → jobs ts i ≤ length left
+row_left {ts} {table} holds i l e = omega (arith, ap length e, length-drop (sum i (jobs ts)) table, row_within ts i l, holds.enough)
+
+-- Of what is left of a filled table after the rows before it, the front is the row of task i.
+pub row_cut : {ts : List Task} {table : List ℕ} → Taken ts → Holds ts table → (i : ℕ) → i < length ts → {left : List ℕ} {n : ℕ} → left ≡ drop (sum i (jobs ts)) table → n ≡ jobs ts i
+    → {task : Task} → task ≡ get_or ts i none → RowOf ts i task (take n left)
+row_cut {ts} {table} taken holds i l {left} {n} e q t = record {
   task_is = t;
-  count_is = simp (length-take, length-drop) (omega (arith, row_within ts i l, holds.enough));
+  count_is = simp length-take (omega (arith, q, row_left holds i l e));
   response_is = λ k m.
-      get_or-take (end - from) (drop from table) k 0 (omega arith) ∙ get_or-drop from table k 0
-      ∙ ap (λ x. get_or table (x + k) 0) e ∙ holds.entry i k l m;
+      get_or-take n left k 0 (omega arith) ∙ ap (λ xs. get_or xs k 0) e ∙ get_or-drop (sum i (jobs ts)) table k 0 ∙ holds.entry i k l m;
 }
 
 -- What the walk needs of a row.
@@ -56,13 +58,6 @@ pub rows_more : (ts : List Task) (n : ℕ) (rows : List Row) (row : Row) → Row
 rows_more ts n rows row before is room = below_more (λ i. (past : Row) → IsRow ts i (get_or (set rows n row) i past)) n
     (λ i l past. subst (IsRow ts i) (sym (get_or-set_other rows n i row past (λ e. omega arith))) (before i l past))
     (λ past. subst (IsRow ts n) (sym (get_or-set_same rows n row past room)) is)
-
--- One copy more.
-pub copied_more : (chain : List ℕ) (rows : List Row) (n : ℕ) (path : List Row) (row : Row) → Copied chain rows n path
-    → ((past : Row) → row ≡ get_or rows (get_or chain n 0) past) → n < length path → Copied chain rows (n + 1) (set path n row)
-copied_more chain rows n path row before is room = below_more (λ j. (past : Row) → get_or (set path n row) j past ≡ get_or rows (get_or chain j 0) past) n
-    (λ j l past. get_or-set_other path n j row past (λ e. omega arith) ∙ before j l past)
-    (λ past. get_or-set_same path n row past room ∙ is past)
 
 -- Copies along a chain of the list's tasks are the chain's path.
 pub copied_path : (ts : List Task) (chain : List ℕ) (n : ℕ) (rows path : List Row) → RowsOf ts (length ts) rows → ((j : ℕ) → j < n → get_or chain j 0 < length ts)

@@ -32,15 +32,12 @@ impl<'a> Filled<'a> {
         ensures { result.sheet ≡ sheet }
     {
         let mut rows = [NONE; 16];
-        let mut from = 0usize;
+        let mut left = table;
         for i in 0..sheet.sheet.count as usize {
             let task = sheet.sheet.tasks[i];
-            let end = from + (h / task.period) as usize;
-            rows[i] = Row {
-                task,
-                responses: &table[from..end],
-            };
-            from = end;
+            let (responses, rest) = left.split_at((h / task.period) as usize);
+            rows[i] = Row { task, responses };
+            left = rest;
         }
         Filled { sheet, rows }
     }

@@ -1,5 +1,5 @@
--- Place by place the row of one task more is noted, and the next one starts after it.
-use Rattle.std.proofs.Common.{◌≡◌, length}
+-- Place by place the row of one task more is noted, and taken off what is left of the table.
+use Rattle.std.proofs.Common.{◌≡◌, length, drop}
 use Rattle.arith.specs.Ranges.{sum}
 use Rattle.theory.specs.Model.Responses.{jobs}
 use Rattle.sheet.specs.Tasks.{tasks_of}
@@ -7,4 +7,8 @@ use Rattle.chain.specs.Paths.{RowsOf}
 use Rattle.chain.proofs.filled.Filled.new.Given as goal
 
 abbrev pub invariant-loop-i : goal.invariant-loop-i
-invariant-loop-i l = record { whole : length l.rows ≡ 16; from_is : l.from ≡ sum l.i (jobs (tasks_of l.sheet.sheet)); noted : RowsOf (tasks_of l.sheet.sheet) l.i l.rows }
+invariant-loop-i l = record {
+  whole : length l.rows ≡ 16;
+  left_is : l.left ≡ drop (sum l.i (jobs (tasks_of l.sheet.sheet))) l.table;
+  noted : RowsOf (tasks_of l.sheet.sheet) l.i l.rows;
+}

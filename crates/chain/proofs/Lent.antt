@@ -1,5 +1,5 @@
 -- The chain of a number, of whose sixteen places the first `length` are lent.
-use Rattle.std.proofs.Common.{◌≡◌, ℕ, ◌-◌, ◌≤◌, ◌<◌, List, length, get_or, take, sym, ap, ◌∙◌, subst, arith, get_or-take}
+use Rattle.std.proofs.Common.{◌≡◌, ℕ, ◌-◌, ◌<◌, List, length, get_or, take, sym, ap, ◌∙◌, arith, get_or-take}
 use Rattle.answers.specs.Answers.{fine}
 use Rattle.sheet.specs.declared.Chain.{Chain}
 use Rattle.sheet.specs.declared.Sheet.{Sheet}

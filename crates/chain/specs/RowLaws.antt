@@ -1,5 +1,5 @@
 -- The rows of a sheet's tasks: where they lie in a filled table, and how they are noted one by one and copied along a chain.
-use Rattle.std.specs.Prelude.{◌≡◌, List, ℕ, suc, ◌+◌, ◌-◌, ◌*◌, ◌≤◌, ◌<◌, length, get_or, set, take, drop}
+use Rattle.std.specs.Prelude.{◌≡◌, List, ℕ, suc, ◌+◌, ◌*◌, ◌≤◌, ◌<◌, length, get_or, set, take, drop}
 use Rattle.std.proofs.Common.{sym, ap, ◌∙◌, subst, arith, length-take, length-take-le, length-drop, get_or-take, get_or-drop, get_or-set_same, get_or-set_other, below_more}
 use Rattle.theory.specs.declared.Task.{Task}
 use Rattle.arith.specs.Ranges.{sum}

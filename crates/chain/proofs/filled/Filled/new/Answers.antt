@@ -1,5 +1,5 @@
 -- The row of task i is as long as the task has jobs, and the next one starts after it.
-use Rattle.std.proofs.Common.{◌≡◌, ◌+◌, ◌/◌, ◌<◌, ◌≤◌, List, ℕ, length, get_or, take, drop, refl, sym, ap, ap₂, ◌∙◌, subst, arith, add-one, drop-drop, length-set}
+use Rattle.std.proofs.Common.{◌≡◌, ◌+◌, ◌/◌, ◌<◌, ◌≤◌, List, ℕ, length, get_or, take, drop, refl, sym, ap₂, ◌∙◌, subst, arith, add-one, drop-drop, length-set}
 use Rattle.arith.specs.Ranges.{sum}
 use Rattle.theory.specs.Model.Schedule.{none}
 use Rattle.theory.specs.Model.Responses.{hyperperiod, jobs}

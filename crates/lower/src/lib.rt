@@ -34,9 +34,7 @@ fn same_chain(old: Judged, new: Judged) -> bool
 {
     let a = old.sheet.chains[0];
     let b = new.sheet.chains[0];
-    let first = a.entries;
-    let second = b.entries;
-    first[..a.length as usize] == second[..b.length as usize]
+    a.entries[..a.length as usize] == b.entries[..b.length as usize]
 }
 
 // Whether each task of the chain outranks task i.
@@ -46,10 +44,9 @@ fn below_chain(s: Judged, i: u8, chain: Chain) -> bool
     ensures below { IsTrue result ↔ All (λ entry. rank s.sheet.tasks i < rank s.sheet.tasks entry) (take chain.length chain.entries) }
     ensures whole { length chain.entries ≡ 16 }
 {
-    let tasks = s.sheet.tasks;
-    let entries = chain.entries;
+    let tasks = &s.sheet.tasks;
     let rank = tasks[i as usize].rank;
-    entries[..chain.length as usize]
+    chain.entries[..chain.length as usize]
         .iter()
         .all(|&entry| rank < tasks[entry as usize].rank)
 }

@@ -161,9 +161,8 @@ impl Responses {
         requires { ChainIn self.now.judged.sheet chain }
         ensures { result ≡ bounds_of (tasks_of self.now.judged.sheet) (entries_of chain) }
     {
-        let entries = chain.entries;
-        let first = entries[0] as usize;
-        let sampling_bound = self.bound_along(&entries[..chain.length as usize]);
+        let first = chain.entries[0] as usize;
+        let sampling_bound = self.bound_along(&chain.entries[..chain.length as usize]);
         let bound = sampling_bound + (self.judged.sheet.tasks[first].period - 1);
         Bounds {
             sampling_bound,

@@ -37,7 +37,8 @@ fn less_of(limit: u32, figure: u32) -> i32
     limit as i32 - figure as i32
 }
 
-// 17 for a number that the sheet lacks, after the fields; where it has the chain these are left to what follows.
+// 17 for a number that the sheet lacks, after the fields; where it has the chain these are left to what follows, so that they are judged
+// once: of a small sheet that is a good part of the cost.
 fn lacking(s: Sheet, number: u8) -> Result<(), Refusal>
     ensures { Lacking s number result }
 {

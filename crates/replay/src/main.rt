@@ -48,10 +48,10 @@ fn replay(out: &mut File, bytes: &[u8], log: &[u8], table: &mut [u32]) -> fmt::R
 // What lies past the 179th byte never changes the answer of a sheet. A log has at most 18,945 bytes, and of what follows only whether anything
 // does matters. So these buffers serve inputs of any length. Whether the output could be written is for the launcher to see.
 fn main() {
+    let mut table = [0u32; 8192];
     let mut input = io::buffer();
     let n = io::read_full(0, &mut input);
     let mut log = [0u8; 18946];
     let m = io::read_full(3, &mut log);
-    let mut table = [0u32; 8192];
     let _ = replay(&mut File(1), &input[..n], &log[..m], &mut table);
 }

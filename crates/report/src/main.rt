@@ -54,9 +54,9 @@ fn report(bytes: &[u8], table: &mut [u32]) -> Result<(Sheet, Suite), Refusal> {
 // What lies past the 179th byte never changes the reader's answer, so a buffer of 4,096 serves inputs of any length. Whether the output could
 // be written is for the launcher to see.
 fn main() {
+    let mut table = [0u32; 8192];
     let mut input = io::buffer();
     let n = io::read_full(0, &mut input);
-    let mut table = [0u32; 8192];
     let mut out = File(1);
     let _ = match report(&input[..n], &mut table) {
         Ok((s, suite)) => print_report(&mut out, s, suite),

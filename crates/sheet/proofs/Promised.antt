@@ -1,6 +1,6 @@
 -- The contract of each call is its promise: what a caller learns of it is the predicate of `Promises`, no more and no less.
 use mathlib.Core.Path.{◌≡◌, refl}
-use Rattle.sheet.specs.Promises.{JudgePromise, JudgedPromise, ReadPromise, ToSecondPromise, ToFirstPromise, WritePromise, ChainCountPromise, NumberedPromise, ChainPromise}
+use Rattle.sheet.specs.Promises.{JudgePromise, JudgedPromise, ReadPromise, ToSecondPromise, ToFirstPromise, WritePromise, ChainCountPromise, NumberedPromise, ChainPromise, TasksPromise, EntriesPromise}
 use Rattle.sheet.proofs.judge.Reads as judge
 use Rattle.sheet.proofs.read.Reads as read
 use Rattle.sheet.proofs.write.Reads as write
@@ -10,6 +10,8 @@ use Rattle.sheet.proofs.chain_count.Reads as chain_count
 use Rattle.sheet.proofs.numbered.Reads as numbered
 use Rattle.sheet.proofs.judged.Reads as judged
 use Rattle.sheet.proofs.chain_of.Reads as chain_of
+use Rattle.sheet.proofs.sound.Judged.tasks.Reads as judged_tasks
+use Rattle.sheet.proofs.Chain.tasks.Reads as chain_tasks
 
 judge_promised : judge.Learnt ≡ (λ κs a r e. JudgePromise a.0 r)
 judge_promised = refl
@@ -37,3 +39,9 @@ judged_promised = refl
 
 chain_of_promised : chain_of.Learnt ≡ (λ κs a r e. ChainPromise a.0 a.1.0 r)
 chain_of_promised = refl
+
+judged_tasks_promised : judged_tasks.Learnt ≡ (λ κs a r e. TasksPromise a.0.now r.now)
+judged_tasks_promised = refl
+
+chain_tasks_promised : chain_tasks.Learnt ≡ (λ κs a r e. EntriesPromise a.0.now r.now)
+chain_tasks_promised = refl

@@ -1,5 +1,5 @@
 -- The tasks and the chains of a sheet that is judged fine: each place's task in the list, proper tasks, and a chain of them.
-use Rattle.std.specs.Prelude.{◌≡◌, refl, ◌≢◌, Bool, true, false, cond, List, [], ◌∷◌, ℕ, suc, ◌-◌, ◌/◌, ◌≤◌, ◌<◌, eqb, length, get_or}
+use Rattle.std.specs.Prelude.{◌≡◌, refl, ◌≢◌, Bool, true, false, cond, List, [], ◌∷◌, ℕ, suc, ◌-◌, ◌/◌, ◌≤◌, ◌<◌, eqb, length, get_or, Ok}
 use Rattle.std.proofs.Common.{sym, ap, ap₂, ◌∙◌, subst, arith, length-take-le, le-ltb}
 use Rattle.std.proofs.Math.Decide.{dec_le}
 use Rattle.std.proofs.Math.ListN.{length-take, get_or-eq_default}
@@ -8,15 +8,18 @@ use Rattle.theory.specs.declared.Task.{Task}
 use Rattle.theory.specs.Model.Schedule.{none, period, budget, rank, Proper}
 use Rattle.theory.specs.Model.Responses.{hyperperiod, jobs}
 use Rattle.theory.specs.Model.Chain.{Chain}
+use Rattle.sheet.specs.declared.Chain.{Chain as SheetChain}
 use Rattle.sheet.specs.declared.Sheet.{Sheet}
+use Rattle.sheet.specs.declared.sound.Judged.{Judged}
 use Rattle.sheet.specs.declared.Field.TheVariants.{Entry}
-use Rattle.answers.specs.Answers.{fine}
-use Rattle.answers.specs.AnswerLaws.{when_fine}
+use Rattle.answers.specs.Answers.{Answer, given, fine}
+use Rattle.answers.specs.AnswerLaws.{also_given, when_fine}
 use Rattle.sheet.specs.Fields.{old, new, kind_of, chains, value}
 use Rattle.sheet.specs.Sound.{Within, Sound}
 use Rattle.sheet.specs.SameLaws.{chains_few}
 use Rattle.sheet.specs.SoundLaws.{inside}
-use Rattle.sheet.specs.Tasks.{tasks_of, chain_count, lacks, chain_at, chain_of, first_of, rest_of}
+use Rattle.sheet.specs.Tasks.{tasks_of, chain_count, lacks, chain_at, entries_of, chain_of, first_of, rest_of}
+use Rattle.sheet.specs.Promises.{ChainPromise}
 
 -- A task whose T and C are allowed.
 pub record Allowed (t : Task) : Type 0 where
@@ -111,6 +114,14 @@ chains_most s sound = omega (arith, chain_count_lem _ sound, chains_few (kind_of
 -- a number from 1 to the count is that of a chain
 pub number_known : (s : Sheet) (number : ℕ) → 1 ≤ number → number ≤ chain_count s → lacks s number ≡ fine
 number_known s number l m = rw (le-ltb number 1 l, le-ltb (chain_count s) number m)
+
+-- a number for which a chain is answered is known, and the tasks along that chain are those of the number
+pub chain_told : (s : Judged) (number : ℕ) {c : SheetChain} → ChainPromise s number (Ok c) → (lacks s.sheet number ≡ fine) × (entries_of c ≡ chain_of s.sheet number)
+chain_told s number {c} h =
+    let k = also_given (lacks s.sheet number) (given (chain_at s.sheet number)) (sym h) in
+    let e : ◌≡◌ {A = Answer SheetChain} (given (chain_at s.sheet number)) (given c) = k.1 in
+    let same : c ≡ chain_at s.sheet number = cc in
+    (k.0, ap entries_of same)
 
 module _ (s : Sheet) (sound : Sound s) (number : ℕ) (known : lacks s number ≡ fine) where
   -- the place of the chain among the eight

@@ -23,8 +23,11 @@ abbrev pub chain_at : Sheet → ℕ → Chain
 chain_at s number = get_or s.chains (number - 1) idle
 
 -- A chain's entries are in the first `length` of its sixteen places.
+abbrev pub entries_of : Chain → List ℕ
+entries_of c = take c.length c.entries
+
 abbrev pub chain_of : Sheet → ℕ → List ℕ
-chain_of s number = let c = chain_at s number in take c.length c.entries
+chain_of s number = entries_of (chain_at s number)
 
 abbrev pub limit_of : Sheet → ℕ → ℕ
 limit_of s number = (chain_at s number).limit

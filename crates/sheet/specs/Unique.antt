@@ -6,12 +6,13 @@ use mathlib.Core.HLevel.{is_prop→PathP}
 use Rattle.answers.specs.declared.Refusal.{Refusal}
 use Rattle.answers.specs.Answers.{Answer, given, told}
 use Rattle.answers.specs.AnswerLaws.{refused_given, refusal_unique, told_unique}
+use Rattle.theory.specs.declared.Task.{Task}
 use Rattle.sheet.specs.declared.Chain.{Chain}
 use Rattle.sheet.specs.declared.Sheet.{Sheet}
 use Rattle.sheet.specs.declared.sound.Judged.{Judged}
 use Rattle.sheet.specs.Calls.{buffer_after}
 use Rattle.sheet.specs.Sound.{Sound}
-use Rattle.sheet.specs.Promises.{JudgePromise, JudgedPromise, ReadPromise, ToSecondPromise, ToFirstPromise, WritePromise, ChainCountPromise, NumberedPromise, ChainPromise}
+use Rattle.sheet.specs.Promises.{JudgePromise, JudgedPromise, ReadPromise, ToSecondPromise, ToFirstPromise, WritePromise, ChainCountPromise, NumberedPromise, ChainPromise, TasksPromise, EntriesPromise}
 
 pub judge_unique : (s : Sheet) (v w : Result Unit Refusal) → JudgePromise s v → JudgePromise s w → v ≡ w
 judge_unique s v w h g = told_unique v w (h ∙ sym g)
@@ -53,3 +54,9 @@ judged_unique s (Err r) (Err q) h g = ap Err (refusal_unique r q (h ∙ sym g))
 
 pub chain_of_unique : (s : Judged) (number : ℕ) (x y : Result Chain Refusal) → ChainPromise s number x → ChainPromise s number y → x ≡ y
 chain_of_unique s number x y h g = told_unique x y (h ∙ sym g)
+
+pub tasks_unique : (s : Judged) (x y : List Task) → TasksPromise s x → TasksPromise s y → x ≡ y
+tasks_unique s x y h g = h ∙ sym g
+
+pub entries_unique : (c : Chain) (x y : List ℕ) → EntriesPromise c x → EntriesPromise c y → x ≡ y
+entries_unique c x y h g = h ∙ sym g

@@ -11,7 +11,7 @@ ghost use Rattle.answers.specs.Answers.{told};
 ghost use Rattle.sheet.specs.Fields.{old, new, kind_of, chains, width, value, outside, judged, with_offset};
 ghost use Rattle.sheet.specs.Calls.{places, unused, packed, task_bits, chain_from, sheet_of, spelt, tail_of};
 ghost use Rattle.sheet.specs.Order.{Placed, opening, chain_opening, task_opening, entry_opening, after, refused_if, rank_judged, entry_judged, fields_judged, task_at, chain_spelt, sheet_spelt};
-ghost use Rattle.sheet.specs.Promises.{JudgePromise, JudgedPromise, ReadPromise, WritePromise, ToSecondPromise, ToFirstPromise, ChainCountPromise, NumberedPromise, ChainPromise};
+ghost use Rattle.sheet.specs.Promises.{JudgePromise, JudgedPromise, ReadPromise, WritePromise, ToSecondPromise, ToFirstPromise, ChainCountPromise, NumberedPromise, ChainPromise, TasksPromise, EntriesPromise};
 
 pub mod sound;
 
@@ -24,6 +24,15 @@ pub struct Chain {
     pub entries: [u8; 16],
     pub length: u8,
     pub limit: u32,
+}
+
+impl Chain {
+    // The tasks along it: the first `length` of its sixteen entries.
+    pub fn tasks(&self) -> &[u8]
+        ensures { EntriesPromise self.now result.now }
+    {
+        &self.entries[..usize::from(self.length.min(16))]
+    }
 }
 
 // `count` tasks and a suite of so many chains. An old sheet is edition 1: it uses chain one, and neither `suite` nor a limit.
@@ -283,6 +292,16 @@ pub fn judge(s: Sheet) -> Result<(), Refusal>
 {
     judge_fields(&s, MOST_BYTES)?;
     Ok(())
+}
+
+impl Judged {
+    // The tasks on it: the first `count` of its sixteen places.
+    #[tactic(auto, unfolding(crate::specs::Tasks::tasks_of))]
+    pub fn tasks(&self) -> &[Task]
+        ensures { TasksPromise self.now result.now }
+    {
+        &self.sheet.tasks[..usize::from(self.sheet.count)]
+    }
 }
 
 // The same sheet, known to be judged fine.

@@ -76,10 +76,10 @@ module _ (bytes : List ℕ) (tasks n : ℕ) where
     task_known e = omega (arith, number_lt (unpack bytes) (begin r) 4)
 
     -- What is judged of a record's numbers is judged of the record.
-    pub entry_judged_lem : (e : Entry) {at : ℕ} {j : Judgement} → EntryPromise bytes r e → at ≡ begin r
-        → j ≡ entry_judged (length bytes * 8) at tasks e.task (kind_in e.kind) e.gap (kind_in (get_or kinds e.task Start)) time → j ≡ record_judged bytes tasks r
-    entry_judged_lem e p a h =
-        h ∙ ap₂ (λ at t. entry_judged (length bytes * 8) at tasks t (kind_in e.kind) e.gap (kind_in (get_or kinds t Start)) time) a p.0
+    pub entry_judged_lem : (e : Entry) {j : Judgement} → EntryPromise bytes r e
+        → j ≡ entry_judged (length bytes * 8) (begin r) tasks e.task (kind_in e.kind) e.gap (kind_in (get_or kinds e.task Start)) time → j ≡ record_judged bytes tasks r
+    entry_judged_lem e p h =
+        h ∙ ap (λ t. entry_judged (length bytes * 8) (begin r) tasks t (kind_in e.kind) e.gap (kind_in (get_or kinds t Start)) time) p.0
         ∙ ap₂ (λ k g. entry_judged (length bytes * 8) (begin r) tasks (task bytes r) k g (kind_in (get_or kinds (task bytes r) Start)) time) p.1 p.2
         ∙ ap₂ (entry_judged (length bytes * 8) (begin r) tasks (task bytes r) (kind bytes r) (gap bytes r)) (x.expects.each (task bytes r) (task_known refl)) x.time_is
 

@@ -29,36 +29,23 @@ const HEAD_BITS: u32 = ORIGIN_BITS + COUNT_BITS;
 
 const RECORD_BITS: u32 = INDEX_BITS + KIND_BITS + COUNTER_BITS;
 
-// Differences, and the time so far, are below this.
-const MOST_TIME: u32 = 2147483648;
+// A record's counter stands behind its task and its kind.
+const COUNTER_AT: u32 = INDEX_BITS + KIND_BITS;
+
+// "A difference, or the time so far, of 2,147,483,648 or more" is refused.
+const TIME_LIMIT: u32 = 2147483648;
 
 // The bit at which record r begins.
 fn begin_of(r: u16) -> u32
     ensures { (result ≡ begin r) × (result < 4000000) }
 {
-    HEAD_BITS + RECORD_BITS * r as u32
-}
-
-fn counter_at(log: &[u8], r: u16) -> u32
-    ensures { result ≡ counter log.now r }
-{
-    bits::number(log, begin_of(r) + INDEX_BITS + KIND_BITS, COUNTER_BITS)
+    HEAD_BITS + RECORD_BITS * u32::from(r)
 }
 
 fn origin(log: &[u8]) -> u32
     ensures { result ≡ origin log.now }
 {
     bits::number(log, 0, ORIGIN_BITS)
-}
-
-// The counter before that of record r.
-fn counter_before(log: &[u8], r: u16) -> u32
-    ensures { result ≡ before log.now r }
-{
-    if r == 0 {
-        return origin(log);
-    }
-    counter_at(log, r - 1)
 }
 
 // How many records the log says that it has.
@@ -68,33 +55,12 @@ pub fn count(log: &[u8]) -> u16
     bits::number(log, ORIGIN_BITS, COUNT_BITS) as u16
 }
 
-// "A kind (1; zero is a start)": that of record r.
-fn kind_at(log: &[u8], r: u16) -> Kind
-    ensures { kind_in result ≡ kind log.now r }
-{
-    match bits::number(log, begin_of(r) + INDEX_BITS, KIND_BITS) {
-        0 => Kind::Start,
-        _ => Kind::Finish,
-    }
-}
-
-// Record r, behind a counter. "The counter rolls over past its top value and carries on from zero."
-fn entry_after(log: &[u8], r: u16, last: u32) -> Entry
-    requires { last ≡ before log.now r }
-    ensures { EntryPromise log.now r result }
-{
-    Entry {
-        task: bits::number(log, begin_of(r), INDEX_BITS) as u8,
-        kind: kind_at(log, r),
-        gap: counter_at(log, r).wrapping_sub(last),
-    }
-}
-
 // Record r. A bit past the end counts as 0.
 pub fn entry(log: &[u8], r: u16) -> Entry
     ensures { EntryPromise log.now r result }
 {
-    entry_after(log, r, counter_before(log, r))
+    let record = Record { log, r };
+    record.entry_after(record.before())
 }
 
 // A field lies inside so many bytes.
@@ -108,66 +74,96 @@ fn inside(len: usize, at: u32, width: u32) -> Result<(), Refusal>
     Ok(())
 }
 
-fn judge_index(len: usize, at: u32, tasks: u8, task: u8) -> Result<(), Refusal>
-    requires { at < 4000000 }
-    ensures { told result ≡ index_judged (len * 8) at tasks task }
-{
-    inside(len, at, INDEX_BITS)?;
-    if tasks <= task {
-        return Err(Refusal::LogTask);
-    }
-    Ok(())
+// A log's record, by its number.
+#[derive(Clone, Copy)]
+struct Record<'a> {
+    log: &'a [u8],
+    r: u16,
 }
 
-fn judge_kind(len: usize, at: u32, kind: Kind, expected: Kind) -> Result<(), Refusal>
-    requires { at < 4000000 }
-    ensures { told result ≡ kind_judged (len * 8) at (kind_in kind) (kind_in expected) }
-{
-    inside(len, at + INDEX_BITS, KIND_BITS)?;
-    if kind == expected {
-        return Ok(());
-    }
-    Err(Refusal::LogKind)
-}
-
-// The counter's difference, and the time so far with it.
-fn judge_counter(len: usize, at: u32, gap: u32, time: u32) -> Result<(), Refusal>
-    requires { (at < 4000000) × (time < most_time) }
-    ensures { told result ≡ counter_judged (len * 8) at gap time }
-{
-    inside(len, at + INDEX_BITS + KIND_BITS, COUNTER_BITS)?;
-    if MOST_TIME <= gap || MOST_TIME <= time + gap {
-        return Err(Refusal::LogTime);
-    }
-    Ok(())
-}
-
-// A record that begins at a bit, "front to back".
-fn judge_entry(
-    len: usize,
-    at: u32,
-    tasks: u8,
-    e: Entry,
-    expected: Kind,
-    time: u32,
-) -> Result<(), Refusal>
-    requires { (at < 4000000) × (time < most_time) }
-    ensures { told result ≡ entry_judged (len * 8) at tasks e.task (kind_in e.kind) e.gap (kind_in expected) time }
-{
-    judge_index(len, at, tasks, e.task)?;
-    judge_kind(len, at, e.kind, expected)?;
-    judge_counter(len, at, e.gap, time)
-}
-
-impl Kind {
-    // The kind that the task's next record must have.
-    fn next(self) -> Kind
-        ensures { kind_in result ≡ 1 - kind_in self }
+impl Record<'_> {
+    fn counter(&self) -> u32
+        ensures { result ≡ counter self.now.log.now self.now.r }
     {
-        match self {
-            Kind::Start => Kind::Finish,
-            Kind::Finish => Kind::Start,
+        bits::number(self.log, begin_of(self.r) + COUNTER_AT, COUNTER_BITS)
+    }
+
+    // The counter before it.
+    fn before(&self) -> u32
+        ensures { result ≡ before self.now.log.now self.now.r }
+    {
+        if self.r == 0 {
+            return origin(self.log);
         }
+        let previous = Record {
+            r: self.r - 1,
+            ..*self
+        };
+        previous.counter()
+    }
+
+    // "A kind (1; zero is a start)".
+    fn kind(&self) -> Kind
+        ensures { kind_in result ≡ kind self.now.log.now self.now.r }
+    {
+        match bits::number(self.log, begin_of(self.r) + INDEX_BITS, KIND_BITS) {
+            0 => Kind::Start,
+            _ => Kind::Finish,
+        }
+    }
+
+    // What it says, behind a counter. "The counter rolls over past its top value and carries on from zero."
+    fn entry_after(&self, last: u32) -> Entry
+        requires { last ≡ before self.now.log.now self.now.r }
+        ensures { EntryPromise self.now.log.now self.now.r result }
+    {
+        Entry {
+            task: bits::number(self.log, begin_of(self.r), INDEX_BITS) as u8,
+            kind: self.kind(),
+            gap: self.counter().wrapping_sub(last),
+        }
+    }
+
+    fn judge_index(&self, tasks: u8, task: u8) -> Result<(), Refusal>
+        ensures { told result ≡ index_judged (length self.now.log.now * 8) (begin self.now.r) tasks task }
+    {
+        inside(self.log.len(), begin_of(self.r), INDEX_BITS)?;
+        if tasks <= task {
+            return Err(Refusal::LogTask);
+        }
+        Ok(())
+    }
+
+    fn judge_kind(&self, kind: Kind, expected: Kind) -> Result<(), Refusal>
+        ensures { told result ≡ kind_judged (length self.now.log.now * 8) (begin self.now.r) (kind_in kind) (kind_in expected) }
+    {
+        inside(self.log.len(), begin_of(self.r) + INDEX_BITS, KIND_BITS)?;
+        if kind == expected {
+            return Ok(());
+        }
+        Err(Refusal::LogKind)
+    }
+
+    // The counter's difference, and the time so far with it.
+    fn judge_counter(&self, gap: u32, time: u32) -> Result<(), Refusal>
+        requires { time < most_time }
+        ensures { told result ≡ counter_judged (length self.now.log.now * 8) (begin self.now.r) gap time }
+    {
+        inside(self.log.len(), begin_of(self.r) + COUNTER_AT, COUNTER_BITS)?;
+        if TIME_LIMIT <= gap || TIME_LIMIT <= time + gap {
+            return Err(Refusal::LogTime);
+        }
+        Ok(())
+    }
+
+    // Its fields "front to back".
+    fn judge(&self, tasks: u8, e: Entry, expected: Kind, time: u32) -> Result<(), Refusal>
+        requires { time < most_time }
+        ensures { told result ≡ entry_judged (length self.now.log.now * 8) (begin self.now.r) tasks e.task (kind_in e.kind) e.gap (kind_in expected) time }
+    {
+        self.judge_index(tasks, e.task)?;
+        self.judge_kind(e.kind, expected)?;
+        self.judge_counter(e.gap, time)
     }
 }
 
@@ -179,9 +175,10 @@ fn judge_records(log: &[u8], tasks: u8, n: u16) -> Result<(), Refusal>
     let mut time = 0u32;
     let mut counter = origin(log);
     for r in 0..n {
-        let e = entry_after(log, r, counter);
+        let record = Record { log, r };
+        let e = record.entry_after(counter);
         let i = e.task as usize;
-        judge_entry(log.len(), begin_of(r), tasks, e, expected[i], time)?;
+        record.judge(tasks, e, expected[i], time)?;
         time += e.gap;
         counter = counter.wrapping_add(e.gap);
         expected[i] = e.kind.next();
@@ -189,12 +186,12 @@ fn judge_records(log: &[u8], tasks: u8, n: u16) -> Result<(), Refusal>
     Ok(())
 }
 
-// What follows the last field.
-fn judge_tail(log: &[u8], end: u32) -> Result<(), Refusal>
-    requires { end < 4000000 }
-    ensures { told result ≡ tail_of log.now end }
+// What follows the last of n records. Not a public call of sheet's: that one would have to answer every end, and a bit behind the longest has
+// no 32-bit number.
+fn judge_tail(log: &[u8], n: u16) -> Result<(), Refusal>
+    ensures { told result ≡ tail_of log.now (begin n) }
 {
-    match bits::surplus(log, end) {
+    match bits::surplus(log, begin_of(n)) {
         Some(bit) => Err(Refusal::Surplus(bit as u32)),
         None => Ok(()),
     }
@@ -214,5 +211,5 @@ pub fn judge(log: &[u8], tasks: u8) -> Result<(), Refusal>
     judge_head(log.len())?;
     let n = count(log);
     judge_records(log, tasks, n)?;
-    judge_tail(log, begin_of(n))
+    judge_tail(log, n)
 }

@@ -12,13 +12,13 @@ loop-r-init c = let a = c.args in record { judged = judged_none a.log.now a.task
 pub bounds-expected-i : goal.bounds-expected-i
 bounds-expected-i c = omega (arith, c.entry_after-e.ensures.0, number_lt (unpack c.args.log.now) (begin c.loop-r.r) 4)
 
-pub returns-in_err-judge_entry : goal.returns-in_err-judge_entry
-returns-in_err-judge_entry c =
+pub returns-in_err-judge : goal.returns-in_err-judge
+returns-in_err-judge c =
     let a = c.args in
     let l = c.loop-r in
     let e = c.entry_after-e in
-    let no = judged_no a.log.now a.tasks a.n l.invariant.judged c.loop-r-test.true c.in_err-judge_entry.field-0.0
-    (entry_judged_lem a.log.now a.tasks a.n l.invariant.judged e.result e.ensures c.begin_of.ensures.0 c.in_err-judge_entry.ensures) in
+    let no = judged_no a.log.now a.tasks a.n l.invariant.judged c.loop-r-test.true c.in_err-judge.field-0.0
+    (entry_judged_lem a.log.now a.tasks a.n l.invariant.judged e.result e.ensures c.in_err-judge.ensures) in
     search rules
 
 pub overflow_add-time : goal.overflow_add-time
@@ -31,7 +31,7 @@ overflow_add-time c =
           omega (
             arith,
             judged_time a.log.now a.tasks a.n l.invariant.judged e.result e.ensures
-                (entry_judged_lem a.log.now a.tasks a.n l.invariant.judged e.result e.ensures c.begin_of.ensures.0 c.in_ok-judge_entry.ensures),
+                (entry_judged_lem a.log.now a.tasks a.n l.invariant.judged e.result e.ensures c.in_ok-judge.ensures),
           );
     }
 
@@ -46,7 +46,7 @@ loop-r-preserved c =
     record {
       judged =
           judged_next a.log.now a.tasks a.n l.invariant.judged c.loop-r-test.true e.result c.next.result e.ensures c.next.ensures
-          (entry_judged_lem a.log.now a.tasks a.n l.invariant.judged e.result e.ensures c.begin_of.ensures.0 c.in_ok-judge_entry.ensures);
+          (entry_judged_lem a.log.now a.tasks a.n l.invariant.judged e.result e.ensures c.in_ok-judge.ensures);
       counter_is = counter_next a.log.now l.r l.counter e.result.gap l.invariant.counter_is e.ensures.2;
     }
 

@@ -9,13 +9,11 @@ use sheet::Sheet;
 use std::fmt;
 use std::fmt::Write;
 
+// The order is that of report's print_report, which says why these are two. A sheet that was read has at most 16 tasks.
 fn print_bounds(out: &mut File, s: Sheet, quick: QuickSuite) -> fmt::Result {
-    let tasks = TaskLines {
-        count: s.count,
-        responses: quick.responses,
-    };
-    write!(out, "{tasks}")?;
-    let chains = sheet::chain_count(s) as usize;
+    let tasks = usize::from(s.count).min(16);
+    write!(out, "{}", TaskLines(&quick.responses[..tasks]))?;
+    let chains = usize::from(sheet::chain_count(s));
     for (&chain, figures) in s.chains.iter().zip(&quick.chains).take(chains) {
         write!(out, "{}", ChainLine(chain))?;
         writeln!(out, "bound {}", figures.bound)?;

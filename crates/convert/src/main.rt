@@ -3,9 +3,8 @@
 #![tactic(auto)]
 
 use answers::Refusal;
-use page::File;
+use page::send;
 use sheet::Sheet;
-use std::fmt::Write;
 
 // The sheet of some bytes, in the edition that a character asks for.
 fn converted(edition: u8, bytes: &[u8]) -> Result<Sheet, Refusal> {
@@ -17,7 +16,7 @@ fn converted(edition: u8, bytes: &[u8]) -> Result<Sheet, Refusal> {
     }
 }
 
-// Its bytes, put into a buffer.
+// Its bytes, put into a buffer. The last two lines stand in pack too: a call for them would be a promise and a theorem for two lines.
 fn convert<'a>(edition: u8, bytes: &[u8], out: &'a mut [u8]) -> Result<&'a [u8], Refusal> {
     let s = converted(edition, bytes)?;
     let size = sheet::write(s, out)?;
@@ -32,12 +31,5 @@ fn main() {
     let mut input = io::buffer();
     let n = io::read_full(0, &mut input);
     let mut out = [0u8; 178];
-    match convert(edition[0], &input[..n], &mut out) {
-        Ok(written) => {
-            let _ = io::write_all(1, written);
-        }
-        Err(refusal) => {
-            let _ = writeln!(File(2), "{refusal}");
-        }
-    }
+    send(convert(edition[0], &input[..n], &mut out));
 }

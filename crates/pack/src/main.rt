@@ -3,26 +3,43 @@
 #![tactic(auto)]
 
 use answers::Refusal;
-use page::File;
-use sheet::Sheet;
-use std::fmt::Write;
+use page::send;
+use std::fmt;
+use text::Fault;
 
-// The bytes of a sheet, put into a buffer.
-fn packed<'a>(s: Sheet, out: &'a mut [u8]) -> Result<&'a [u8], Refusal> {
-    let size = sheet::write(s, out)?;
-    Ok(&out[..size])
+// Why a text is no sheet.
+#[derive(Clone, Copy, Drop)]
+enum Failure {
+    Text(Fault),
+    Sheet(Refusal),
 }
 
-fn send(s: Sheet) {
-    let mut out = [0u8; 178];
-    match packed(s, &mut out) {
-        Ok(bytes) => {
-            let _ = io::write_all(1, bytes);
-        }
-        Err(refusal) => {
-            let _ = writeln!(File(2), "{refusal}");
+impl From<Fault> for Failure {
+    fn from(fault: Fault) -> Failure {
+        Failure::Text(fault)
+    }
+}
+
+impl From<Refusal> for Failure {
+    fn from(refusal: Refusal) -> Failure {
+        Failure::Sheet(refusal)
+    }
+}
+
+impl fmt::Display for Failure {
+    fn fmt<W: fmt::Write>(&self, f: &mut fmt::Formatter<W>) -> fmt::Result {
+        match self {
+            Failure::Text(fault) => write!(f, "{fault}"),
+            Failure::Sheet(refusal) => write!(f, "{refusal}"),
         }
     }
+}
+
+// The bytes of a text's sheet, put into a buffer.
+fn pack<'a>(text: &[u8], out: &'a mut [u8]) -> Result<&'a [u8], Failure> {
+    let s = text::parse(text)?;
+    let size = sheet::write(s, out)?;
+    Ok(&out[..size])
 }
 
 // What lies past the 16,385th byte never changes the answer, so this buffer serves texts of any length. Whether the output could be written
@@ -30,10 +47,6 @@ fn send(s: Sheet) {
 fn main() {
     let mut input = [0u8; 16385];
     let n = io::read_full(0, &mut input);
-    match text::parse(&input[..n]) {
-        Ok(s) => send(s),
-        Err(fault) => {
-            let _ = writeln!(File(2), "{fault}");
-        }
-    }
+    let mut out = [0u8; 178];
+    send(pack(&input[..n], &mut out));
 }

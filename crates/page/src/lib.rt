@@ -1,8 +1,9 @@
-// Where the programs print, and the lines that several of them print alike.
+// Where the programs print, and what several of them print alike.
 #![tactic(auto)]
 
 use sheet::Chain;
 use std::fmt;
+use std::fmt::Write;
 
 // A file that is open by its number: 1 is standard output, 2 standard error.
 #[derive(Clone, Copy)]
@@ -18,16 +19,28 @@ impl fmt::Write for File {
     }
 }
 
-// "each index with R": so many tasks, a line for each.
-#[derive(Clone, Copy)]
-pub struct TaskLines {
-    pub count: u8,
-    pub responses: [u32; 16],
+// What a program made, to standard output, or why it made nothing, to standard error. Whether it could be written is for the launcher to see.
+pub fn send<E: fmt::Display + Drop>(made: Result<&[u8], E>) {
+    match made {
+        Ok(bytes) => {
+            let _ = io::write_all(1, bytes);
+        }
+        Err(refusal) => {
+            let _ = writeln!(File(2), "{refusal}");
+        }
+    }
 }
 
-impl fmt::Display for TaskLines {
+// The two types below say nothing of what they print: what the programs print is tested and not proved (docs/AUDIT.md), and a proof of either
+// would be one of a loop that writes.
+
+// "each index with R": a line for each task.
+#[derive(Clone, Copy)]
+pub struct TaskLines<'a>(pub &'a [u32]);
+
+impl fmt::Display for TaskLines<'_> {
     fn fmt<W: fmt::Write>(&self, f: &mut fmt::Formatter<W>) -> fmt::Result {
-        for (task, response) in self.responses.iter().take(self.count as usize).enumerate() {
+        for (task, response) in self.0.iter().enumerate() {
             writeln!(f, "task {task} response {response}")?;
         }
         Ok(())

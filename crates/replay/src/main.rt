@@ -24,25 +24,38 @@ fn print_replayed(out: &mut File, replayed: Replayed) -> fmt::Result {
     }
 }
 
+// A refusal, behind the file that it is about.
+#[derive(Clone, Copy, Drop)]
+enum Failure {
+    Sheet(Refusal),
+    Log(Refusal),
+}
+
 // What the replay refuses is about the log where the refusal is one of a log's. The sheet has been read by then: bytes that end too early, or
-// that follow the last, are the log's.
-fn file_of(refusal: Refusal) -> &'static str {
-    match refusal {
-        Refusal::Cut(_) | Refusal::Surplus(_) => "log",
-        Refusal::LogTask | Refusal::LogKind | Refusal::LogTime => "log",
-        _ => "sheet",
+// that follow the last, are the log's. Crate `bellkettle` says the file by a number, as its promise (Numbers.file_of) does, and so this stands
+// apart from it.
+impl From<Refusal> for Failure {
+    fn from(refusal: Refusal) -> Failure {
+        match refusal {
+            Refusal::Cut(_) | Refusal::Surplus(_) => Failure::Log(refusal),
+            Refusal::LogTask | Refusal::LogKind | Refusal::LogTime => Failure::Log(refusal),
+            _ => Failure::Sheet(refusal),
+        }
     }
 }
 
-fn replay(out: &mut File, bytes: &[u8], log: &[u8], table: &mut [u32]) -> fmt::Result {
-    let s = match sheet::read(bytes) {
-        Ok(s) => s,
-        Err(refusal) => return writeln!(out, "sheet: {refusal}"),
-    };
-    match night::replay(s, log, table) {
-        Ok(replayed) => print_replayed(out, replayed),
-        Err(refusal) => writeln!(out, "{}: {refusal}", file_of(refusal)),
+impl fmt::Display for Failure {
+    fn fmt<W: fmt::Write>(&self, f: &mut fmt::Formatter<W>) -> fmt::Result {
+        match self {
+            Failure::Sheet(refusal) => write!(f, "sheet: {refusal}"),
+            Failure::Log(refusal) => write!(f, "log: {refusal}"),
+        }
     }
+}
+
+fn replay(bytes: &[u8], log: &[u8], table: &mut [u32]) -> Result<Replayed, Failure> {
+    let s = sheet::read(bytes).map_err(Failure::Sheet)?;
+    Ok(night::replay(s, log, table)?)
 }
 
 // What lies past the 179th byte never changes the answer of a sheet. A log has at most 18,945 bytes, and of what follows only whether anything
@@ -53,5 +66,9 @@ fn main() {
     let n = io::read_full(0, &mut input);
     let mut log = [0u8; 18946];
     let m = io::read_full(3, &mut log);
-    let _ = replay(&mut File(1), &input[..n], &log[..m], &mut table);
+    let mut out = File(1);
+    let _ = match replay(&input[..n], &log[..m], &mut table) {
+        Ok(replayed) => print_replayed(&mut out, replayed),
+        Err(failure) => writeln!(out, "{failure}"),
+    };
 }

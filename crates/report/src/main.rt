@@ -29,15 +29,13 @@ fn print_figures(out: &mut File, figures: Summary) -> fmt::Result {
     writeln!(out, "margin {}", figures.margin)
 }
 
-// "the report prints the chain lines once per chain"
+// "the report prints the chain lines once per chain". Bound prints its lines in this order too; what stands under a chain is of another type
+// there, and a function over both would take it as a closure and be longer than what it saves. A sheet that was read has at most 16 tasks.
 fn print_report(out: &mut File, s: Sheet, suite: Suite) -> fmt::Result {
     print_totals(out, s.count, suite.totals)?;
-    let tasks = TaskLines {
-        count: s.count,
-        responses: suite.greatest,
-    };
-    write!(out, "{tasks}")?;
-    let chains = sheet::chain_count(s) as usize;
+    let tasks = usize::from(s.count).min(16);
+    write!(out, "{}", TaskLines(&suite.greatest[..tasks]))?;
+    let chains = usize::from(sheet::chain_count(s));
     for (&chain, &figures) in s.chains.iter().zip(&suite.chains).take(chains) {
         write!(out, "{}", ChainLine(chain))?;
         print_figures(out, figures)?;

@@ -2,8 +2,7 @@
 #![tactic(auto)]
 
 use answers::Refusal;
-use page::File;
-use std::fmt::Write;
+use page::send;
 
 // The text of some bytes' sheet, put into a buffer.
 fn show<'a>(bytes: &[u8], out: &'a mut [u8]) -> Result<&'a [u8], Refusal> {
@@ -18,12 +17,5 @@ fn main() {
     let mut input = io::buffer();
     let n = io::read_full(0, &mut input);
     let mut out = io::buffer();
-    match show(&input[..n], &mut out) {
-        Ok(shown) => {
-            let _ = io::write_all(1, shown);
-        }
-        Err(refusal) => {
-            let _ = writeln!(File(2), "{refusal}");
-        }
-    }
+    send(show(&input[..n], &mut out));
 }

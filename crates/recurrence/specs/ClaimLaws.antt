@@ -19,23 +19,21 @@ use Rattle.recurrence.specs.Conditions.{most_period, most_share, most_claim, hig
 -- ---- the tasks that outrank one
 
 -- They are at most sixteen, each as the sheet's tasks are allowed to be.
-pub higher_allowed : (s : Sheet) → Sound s → (i : ℕ) {outranking : List Task} → outranking ≡ higher (tasks_of s) i
+pub higher_allowed : (s : Sheet) → Sound s → (own : ℕ) {outranking : List Task} → outranking ≡ higher (tasks_of s) own
     → (length outranking ≤ 16) × All Allowed outranking
-higher_allowed s ok i e = subst (λ ts. (length ts ≤ 16) × All Allowed ts) (sym e) (
+higher_allowed s ok own e = subst (λ ts. (length ts ≤ 16) × All Allowed ts) (sym e) (
   omega (arith, length-filter test (tasks_of s), count_by-le-length test (tasks_of s), tasks_length s ok, ok.count_most),
   All-filter test Allowed (tasks_of s) (All-from_get_or Allowed (tasks_of s) none (task_allowed s ok)),
 )
   where
     test : Task → Bool
-    test t = ltb (rank (tasks_of s) i) t.rank
+    test t = ltb own t.rank
 
--- They are found among the sheet's places, by the rank that stands there, once all are looked at.
-pub higher_is : (s : Sheet) → Sound s → (i : ℕ) → i < s.count → (n : ℕ) → length (take s.count s.tasks) ≤ n
-    → filter (λ t. ltb (get_or s.tasks i none).rank t.rank) (take n (take s.count s.tasks)) ≡ higher (tasks_of s) i
+-- They are found once all places are looked at.
+pub higher_is : (s : Sheet) (own n : ℕ) → length (take s.count s.tasks) ≤ n
+    → filter (λ t. ltb own t.rank) (take n (take s.count s.tasks)) ≡ higher (tasks_of s) own
 unfolding tasks_of
-higher_is s ok i l n m =
-    ap (filter (λ t. ltb (get_or s.tasks i none).rank t.rank)) (take_all n (take s.count s.tasks) m)
-    ∙ ap (λ r. filter (λ t. ltb r t.rank) (take s.count s.tasks)) (sym (rank_at_lem s ok i l))
+higher_is s own n m = ap (filter (λ t. ltb own t.rank)) (take_all n (take s.count s.tasks) m)
 
 -- ---- the claim
 
@@ -77,13 +75,14 @@ claim_most ts own x n few each l m = omega (
         omega (arith, share_most (get_or ts p d).period t.period_positive (get_or ts p d).budget x t.budget_most, t.period_most)
 
 -- By those that outrank a task it is the task's own.
-pub claim_is : (ts : List Task) (i x : ℕ) → claim_in (higher ts i) (budget ts i) x ≡ claim ts (budget ts) i x
+pub claim_is : (ts : List Task) (i x : ℕ) → claim_in (higher ts (rank ts i)) (budget ts i) x ≡ claim ts (budget ts) i x
 unfolding claim_in claim
 claim_is ts i x =
     ap (λ n. budget ts i + n)
     (ap (λ xs. sum_by (λ t. t.budget * quotient x t.period) (filter (λ t. ltb (rank ts i) t.rank) xs)) (sym (take_all (length ts) ts (omega arith)))
     ∙ filter_sum (λ t. t.budget * quotient x t.period) (λ t. ltb (rank ts i) t.rank) ts (length ts) (omega arith))
 
-pub claim_at : (s : Sheet) → Sound s → (i : ℕ) → i < s.count → (x : ℕ) {outranking : List Task} → outranking ≡ higher (tasks_of s) i
+pub claim_at : (s : Sheet) → Sound s → (i : ℕ) → i < s.count → (x : ℕ) {outranking : List Task} → outranking ≡ higher (tasks_of s) (rank s.tasks i)
     → claim_in outranking (get_or s.tasks i none).budget x ≡ claim (tasks_of s) (budget (tasks_of s)) i x
-claim_at s ok i l x e = ap₂ (λ ts C. claim_in ts C x) e (sym (budget_at s ok i l)) ∙ claim_is (tasks_of s) i x
+claim_at s ok i l x e =
+    ap₂ (λ ts C. claim_in ts C x) (e ∙ ap (higher (tasks_of s)) (sym (rank_at_lem s ok i l))) (sym (budget_at s ok i l)) ∙ claim_is (tasks_of s) i x

@@ -1,7 +1,7 @@
 -- What the functions under the call promise each other.
 use Rattle.std.specs.Prelude.{◌≡◌, List, ℕ, ◌+◌, ◌*◌, ◌≤◌, ◌<◌, ltb, filter, length, get_or, sum_by, take}
 use Rattle.theory.specs.declared.Task.{Task}
-use Rattle.theory.specs.Model.Schedule.{period, rank}
+use Rattle.theory.specs.Model.Schedule.{period}
 use Rattle.theory.specs.Model.Chain.{Chain, outranked}
 use Rattle.theory.specs.Model.Recurrence.{quotient, quick_response}
 use Rattle.theory.specs.Analysis.Largest.{pair_bound}
@@ -27,13 +27,13 @@ most_claim = 3300000
 abbrev pub most_bound : ℕ
 most_bound = 3100000
 
--- The tasks that outrank task i, in their order.
+-- The tasks of a greater rank than this, in their order.
 abbrev pub higher : List Task → ℕ → List Task
-higher ts i = filter (λ t. ltb (rank ts i) t.rank) ts
+higher ts rank = filter (λ t. ltb rank t.rank) ts
 
 -- They stand in the first places of sixteen.
-pub record Gathered (s : Sheet) (i : ℕ) (places : List Task) (size : ℕ) : Type 0 where
-  pub are : take size places ≡ higher (tasks_of s) i
+pub record Gathered (s : Sheet) (rank : ℕ) (places : List Task) (size : ℕ) : Type 0 where
+  pub are : take size places ≡ higher (tasks_of s) rank
   pub room : length places ≡ 16
   pub few : size ≤ 16
 

@@ -8,14 +8,14 @@ pub struct Bounds {
 }
 
 // The same, with the response of each task.
-#[derive(Clone, Copy)]
+#[derive(Clone, Copy, PartialEq, Eq)]
 pub struct QuickBound {
     pub bounds: Bounds,
     pub responses: [u32; 16],
 }
 
 // The bounds of every chain from one search, those of chain c + 1 in place c.
-#[derive(Clone, Copy)]
+#[derive(Clone, Copy, PartialEq, Eq)]
 pub struct QuickSuite {
     pub responses: [u32; 16],
     pub chains: [Bounds; 8],

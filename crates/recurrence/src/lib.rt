@@ -8,6 +8,7 @@ mod answer;
 ghost use Rattle.std.specs.Prelude.{◌≡◌, ◌≤◌, ◌<◌, All, length};
 ghost use Rattle.std.specs.Result.{IfOk, IfErr};
 ghost use Rattle.theory.specs.Model.Recurrence.{quick_response};
+ghost use Rattle.theory.specs.Model.Schedule.{rank};
 ghost use Rattle.answers.specs.Answers.{refusal, told};
 ghost use Rattle.sheet.specs.Tasks.{tasks_of, chain_count};
 ghost use Rattle.sheet.specs.TaskLaws.{Allowed};
@@ -22,12 +23,10 @@ use sheet::sound::Judged;
 use sheet::{Chain, Sheet};
 use theory::Task;
 
-// The tasks that outrank task i, in the front of the places, and how many they are.
-fn gather(s: Judged, i: usize, outranking: &mut [Task; 16]) -> usize
-    requires { i < s.sheet.count }
-    ensures { Gathered s.sheet i outranking.new result }
+// The tasks of a greater rank than this, in the front of the places, and how many they are.
+fn gather(s: Judged, rank: u8, outranking: &mut [Task; 16]) -> usize
+    ensures { Gathered s.sheet rank outranking.new result }
 {
-    let rank = s.sheet.tasks[i].rank;
     let n = s.sheet.count as usize;
     let mut size = 0;
     for task in &s.sheet.tasks[..n] {
@@ -57,12 +56,12 @@ fn claim(outranking: &[Task], own: u32, candidate: u32) -> u32
 // "the least fixed point": the search "begins at the budget and stops at the first value that repeats, or once it passes the period".
 // Of a task that passes it the value is T + 1.
 fn climb(s: Judged, i: usize, outranking: &[Task]) -> u32
-    requires { (i < s.sheet.count) × (outranking.now ≡ higher (tasks_of s.sheet) i) }
+    requires { (i < s.sheet.count) × (outranking.now ≡ higher (tasks_of s.sheet) (rank s.sheet.tasks i)) }
     ensures { result ≡ quick_response (tasks_of s.sheet) i }
 {
     let task = s.sheet.tasks[i];
     let mut candidate = task.budget;
-    let value = loop {
+    loop {
         if task.period < candidate {
             break task.period + 1;
         }
@@ -71,8 +70,7 @@ fn climb(s: Judged, i: usize, outranking: &[Task]) -> u32
             break candidate;
         }
         candidate = next;
-    };
-    value
+    }
 }
 
 // The value of task i. Those that outrank it are gathered once, so that a step of the search divides and does nothing else.
@@ -80,8 +78,9 @@ fn response(s: Judged, i: usize) -> u32
     requires { i < s.sheet.count }
     ensures { result ≡ quick_response (tasks_of s.sheet) i }
 {
+    let rank = s.sheet.tasks[i].rank;
     let mut outranking = [Task::default(); 16];
-    let size = gather(s, i, &mut outranking);
+    let size = gather(s, rank, &mut outranking);
     climb(s, i, &outranking[..size])
 }
 
@@ -90,13 +89,14 @@ fn each_response(s: Judged) -> [u32; 16]
     ensures { result ≡ responses_in s.sheet }
 {
     let mut each = [0u32; 16];
-    for i in 0..s.sheet.count as usize {
+    for i in 0..usize::from(s.sheet.count) {
         each[i] = response(s, i);
     }
     each
 }
 
-// "15 names the greatest-ranked task whose value passes its period".
+// "15 names the greatest-ranked task whose value passes its period". (Night's `turn` looks for such a task by another test. One call for both
+// would take the test as a closure, and to call that is a `requires`, which no call has.)
 fn passing(s: Judged, responses: &[u32; 16]) -> Result<(), Refusal>
     requires { responses.now ≡ responses_in s.sheet }
     ensures { told result ≡ lateness (passing_greatest (tasks_of s.sheet) (length (tasks_of s.sheet))) }
@@ -123,7 +123,7 @@ pub fn pair_bound(producer: Task, consumer: Task, response: u32) -> u64
     ensures { PairBoundPromise producer consumer response result }
 {
     let common = arith::gcd(producer.period, consumer.period);
-    let ticks = consumer.period.saturating_sub(common) as u64;
+    let ticks = u64::from(consumer.period.saturating_sub(common));
     if producer.rank < consumer.rank {
         ticks + arith::up(common, response)
     } else {
@@ -147,9 +147,9 @@ impl Responses {
     {
         let tasks = &self.judged.sheet.tasks;
         let mut ticks = 0u32;
-        let mut p = chain[0] as usize;
+        let mut p = usize::from(chain[0]);
         for entry in &chain[1..] {
-            let c = *entry as usize;
+            let c = usize::from(*entry);
             ticks += pair_bound(tasks[p], tasks[c], self.each[p]) as u32;
             p = c;
         }
@@ -161,7 +161,7 @@ impl Responses {
         requires { ChainIn self.now.judged.sheet chain }
         ensures { result ≡ bounds_of (tasks_of self.now.judged.sheet) (entries_of chain) }
     {
-        let first = chain.entries[0] as usize;
+        let first = usize::from(chain.entries[0]);
         let sampling_bound = self.bound_along(&chain.entries[..chain.length as usize]);
         let bound = sampling_bound + (self.judged.sheet.tasks[first].period - 1);
         Bounds {
@@ -170,12 +170,12 @@ impl Responses {
         }
     }
 
-    // The bounds of each chain.
+    // The bounds of each chain. (An index for both arrays: of what `iter_mut` lends the check knows the length alone afterwards.)
     fn each_bounds(&self) -> [Bounds; 8]
         ensures { result ≡ bounds_to self.now.judged.sheet (chain_count self.now.judged.sheet) }
     {
         let sheet = self.judged.sheet;
-        let n = sheet::chain_count(sheet) as usize;
+        let n = usize::from(sheet::chain_count(sheet));
         let mut chains = [Bounds::default(); 8];
         for c in 0..n {
             chains[c] = self.bounds_of(sheet.chains[c]);
@@ -184,7 +184,7 @@ impl Responses {
     }
 }
 
-// The responses, or 15 where one passes its task's period.
+// The responses, or `Refusal::Late` where one passes its task's period.
 fn respond(s: Judged) -> Result<Responses, Refusal>
     ensures ok { IfOk result (λ x. Timely s x.judged x.each) }
     ensures err { IfErr result (λ r. lateness (passing_greatest (tasks_of s.sheet) (length (tasks_of s.sheet))) ≡ refusal r) }

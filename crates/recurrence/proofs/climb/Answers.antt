@@ -1,6 +1,6 @@
 -- The candidates climb and pass no fixed point, so the first that repeats is the least, and once the period is passed there is none up to it.
 use Rattle.std.proofs.Common.{sym, ◌∙◌, subst, arith}
-use Rattle.theory.specs.Model.Schedule.{budget}
+use Rattle.theory.specs.Model.Schedule.{budget, rank}
 use Rattle.theory.proofs.Analysis.RecurrenceLaws.{Climbs, climb_start, climb_step, climb_fixed, climb_over}
 use Rattle.sheet.specs.Tasks.{tasks_of}
 use Rattle.sheet.specs.TaskLaws.{sound_proper, period_at, budget_at}
@@ -13,7 +13,7 @@ loop-candidate-init c =
     subst (Climbs ts (budget ts) c.args.i) (budget_at _ c.args.s.sound c.args.i c.requires.0) (climb_start ts (budget ts) c.args.i)
 
 pub claim-next-requires-clause-outranking_are : goal.claim-next-requires-clause-outranking_are
-claim-next-requires-clause-outranking_are c = higher_allowed c.args.s.sheet c.args.s.sound c.args.i c.requires.1
+claim-next-requires-clause-outranking_are c = higher_allowed c.args.s.sheet c.args.s.sound (rank c.args.s.sheet.tasks c.args.i) c.requires.1
 
 -- The next candidate is the claim at this one.
 pub loop-candidate-smaller : goal.loop-candidate-smaller

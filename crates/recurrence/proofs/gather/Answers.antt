@@ -5,7 +5,7 @@ use Rattle.recurrence.proofs.gather.Goals as goal
 
 pub returns : goal.returns
 returns c = record {
-  are = c.loop-task.invariant.are ∙ higher_is c.args.s.sheet c.args.s.sound c.args.i c.requires c.loop-task.task-index c.loop-task-test.false;
+  are = c.loop-task.invariant.are ∙ higher_is c.args.s.sheet c.args.rank c.loop-task.task-index c.loop-task-test.false;
   room = c.loop-task.invariant.room;
   few = omega (arith, c.args.s.sound.count_most);
 }

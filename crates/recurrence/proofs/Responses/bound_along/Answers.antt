@@ -1,5 +1,5 @@
 -- What is added so far and what is left from this entry on are the whole bound.
-use Rattle.std.proofs.Common.{◌≡◌, ◌+◌, ◌-◌, ◌≤◌, length, get_or, drop, length-take, length-drop, arith}
+use Rattle.std.proofs.Common.{◌≡◌, ◌∙◌, ◌+◌, ◌-◌, ◌≤◌, length, get_or, drop, length-take, length-drop, arith}
 use Rattle.sheet.specs.Tasks.{tasks_of}
 use Rattle.recurrence.specs.Calls.{bound_by}
 use Rattle.recurrence.specs.Conditions.{most_bound}
@@ -22,7 +22,7 @@ taken : (c : After-pair_bound) → let l = c.loop-entry in
 taken c =
     let l = c.loop-entry in
     let next = entry_is c.args.chain.now l.entry-index c.loop-entry-test.true in
-    pair_taken c.args.self.now.judged.sound c.args.self.now.responding c.requires l.entry-index next.0 l.ticks l.invariant.at next.1 l.invariant.so_far c.pair_bound.ensures
+    pair_taken c.args.self.now.judged.sound c.args.self.now.responding c.requires l.entry-index next.0 l.ticks l.invariant.at (c.from-c.ensures ∙ next.1) l.invariant.so_far c.pair_bound.ensures
 
 pub overflow_cast-ticks : goal.overflow_cast-ticks
 overflow_cast-ticks c = omega (arith, taken (goal.at.overflow_cast-ticks c).After-pair_bound)
@@ -34,7 +34,7 @@ pub loop-entry-preserved : goal.loop-entry-preserved
 loop-entry-preserved c =
     record {
       so_far = (taken (goal.at.loop-entry-preserved c).After-pair_bound).0;
-      at = (entry_is c.args.chain.now c.loop-entry.entry-index c.loop-entry-test.true).1;
+      at = c.from-c.ensures ∙ (entry_is c.args.chain.now c.loop-entry.entry-index c.loop-entry-test.true).1;
     }
 
 -- All pairs are taken.

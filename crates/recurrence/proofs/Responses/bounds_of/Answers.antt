@@ -9,8 +9,8 @@ bound_along-sampling_bound-requires c = chain_on c.requires (omega arith)
 pub overflow_add-bound : goal.overflow_add-bound
 overflow_add-bound c =
     let on = chain_on c.requires (omega arith) in
-    omega (arith, (with_flag c.args.self.now.judged.sound c.args.self.now.responding c.requires on c.bound_along-sampling_bound.ensures).1)
+    rw c.from-first.ensures (omega (arith, (with_flag c.args.self.now.judged.sound c.args.self.now.responding c.requires on c.bound_along-sampling_bound.ensures).1))
 
 pub returns : goal.returns
 returns c =
-    (with_flag c.args.self.now.judged.sound c.args.self.now.responding c.requires (chain_on c.requires (omega arith)) c.bound_along-sampling_bound.ensures).0
+    rw c.from-first.ensures (with_flag c.args.self.now.judged.sound c.args.self.now.responding c.requires (chain_on c.requires (omega arith)) c.bound_along-sampling_bound.ensures).0

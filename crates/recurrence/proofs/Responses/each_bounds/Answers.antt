@@ -25,11 +25,11 @@ bounds_of-requires c =
     let s = c.args.self.now.judged in
     let at = c.loop-c.c in
     subst (ChainIn s.sheet) (place_is s.sheet at)
-    (chain_in s.sound (at + 1) (number_known s.sheet (at + 1) (omega arith) (omega (arith, c.loop-c-test.true, c.chain_count-n.ensures))))
+    (chain_in s.sound (at + 1) (number_known s.sheet (at + 1) (omega arith) (omega (arith, c.loop-c-test.true, c.chain_count.ensures, c.from-n.ensures))))
 
 pub loop-c-preserved : goal.loop-c-preserved
 loop-c-preserved c =
     let l = c.loop-c in
     let s = c.args.self.now.judged.sheet in
     ap₂ (λ xs x. slice_set xs l.c x) l.invariant (c.bounds_of.ensures ∙ ap (λ chain. bounds_of (tasks_of s) (entries_of chain)) (sym (place_is s l.c)))
-    ∙ places_set 8 no_bounds (λ c. bounds_of (tasks_of s) (chain_of s (c + 1))) l.c (omega (arith, c.chain_count-n.ensures, chains_most s c.args.self.now.judged.sound))
+    ∙ places_set 8 no_bounds (λ c. bounds_of (tasks_of s) (chain_of s (c + 1))) l.c (omega (arith, c.chain_count.ensures, c.from-n.ensures, chains_most s c.args.self.now.judged.sound))

@@ -1,5 +1,5 @@
 -- What a call answers, in document 01's terms, and the code's refusals read as such.
-use Rattle.std.specs.Prelude.{Bool, true, false, List, [], ◌∷◌, ℕ, Result, Ok, Err}
+use Rattle.std.specs.Prelude.{Bool, true, false, cond, List, [], ◌∷◌, ◌++◌, ℕ, eqb, codes, decimal, Result, Ok, Err}
 use Rattle.answers.specs.declared.Refusal.{Refusal}
 use Rattle.answers.specs.declared.Refusal.TheVariants.{Cut, Count, Period, Budget, Rank, Length, Entry, Repeat, Surplus, Hyperperiod, Jobs, Release, Limit, Room, Late, Edition, Chain, OldEdition, LogTask, LogKind, LogTime, NoReading, LongReading}
 
@@ -100,3 +100,14 @@ refusal r = refused (number_in r) (values_in r)
 abbrev pub told : {A : Type 0} → Result A Refusal → Answer A
 told (Ok a) = given a
 told (Err r) = refusal r
+
+-- ---- how a refusal is printed
+
+-- Its values behind its number: "and for 15 the task too"; any other that has one comes with ` bit ` and the offset.
+abbrev pub values_text : ℕ → List ℕ → List ℕ
+values_text number [] = []
+values_text number (value ∷ values) = cond (eqb number 15) (codes " task ") (codes " bit ") ++ decimal value
+
+-- "`refused` and its number"
+abbrev pub refusal_text : Refusal → List ℕ
+refusal_text r = codes "refused " ++ (decimal (number_in r) ++ values_text (number_in r) (values_in r))

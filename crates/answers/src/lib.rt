@@ -2,6 +2,8 @@
 // how such a result reads as document 01's answer is defined in specs/Answers.antt.
 #![tactic(auto)]
 
+ghost use Rattle.std.specs.Prelude.{Some};
+ghost use Rattle.answers.specs.Answers.{refusal_text};
 ghost use Rattle.answers.specs.Promises.{NumberPromise, ValuePromise};
 
 use std::fmt;
@@ -81,35 +83,25 @@ impl Refusal {
         ensures { ValuePromise self result }
     {
         match self {
-            Refusal::Cut(bit) => Some(bit),
-            Refusal::Count(bit) => Some(bit),
-            Refusal::Period(bit) => Some(bit),
-            Refusal::Budget(bit) => Some(bit),
-            Refusal::Rank(bit) => Some(bit),
-            Refusal::Length(bit) => Some(bit),
-            Refusal::Entry(bit) => Some(bit),
-            Refusal::Repeat(bit) => Some(bit),
-            Refusal::Surplus(bit) => Some(bit),
-            Refusal::Late(task) => Some(task as u32),
-            Refusal::Hyperperiod => None,
-            Refusal::Jobs => None,
-            Refusal::Release => None,
-            Refusal::Limit => None,
-            Refusal::Room => None,
-            Refusal::Edition => None,
-            Refusal::Chain => None,
-            Refusal::OldEdition => None,
-            Refusal::LogTask => None,
-            Refusal::LogKind => None,
-            Refusal::LogTime => None,
-            Refusal::NoReading => None,
-            Refusal::LongReading => None,
+            Refusal::Cut(bit)
+            | Refusal::Count(bit)
+            | Refusal::Period(bit)
+            | Refusal::Budget(bit)
+            | Refusal::Rank(bit)
+            | Refusal::Length(bit)
+            | Refusal::Entry(bit)
+            | Refusal::Repeat(bit)
+            | Refusal::Surplus(bit) => Some(bit),
+            Refusal::Late(task) => Some(u32::from(task)),
+            _ => None,
         }
     }
 }
 
 // "`refused` and its number", "and for 15 the task too"; the others that have a value come with ` bit ` and the offset.
 impl fmt::Display for Refusal {
+    ghost output = { λ r. Some (refusal_text r) };
+
     fn fmt<W: fmt::Write>(&self, f: &mut fmt::Formatter<W>) -> fmt::Result {
         write!(f, "refused {}", self.number())?;
         match self.value() {

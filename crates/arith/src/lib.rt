@@ -1,6 +1,6 @@
-// The numbers behind hyperperiod, next release, quick bound, response of a task and margin: greatest common divisor, least
-// common multiple, next multiple, greatest entry and distance from zero. Each call answers every input, as the predicate of its
-// name in specs/Promises.antt says; callers go by the laws in specs/WholeLaws.antt and specs/RangeLaws.antt.
+// Greatest common divisor and least common multiple, behind the hyperperiod; the next multiple, with which the quick bound of a pair goes;
+// the greatest entry of a row, behind the response of a task; and how far a negative margin is from zero. Each call answers every input, as
+// the predicate of its name in specs/Promises.antt says; callers go by the laws in specs/WholeLaws.antt and specs/RangeLaws.antt.
 #![tactic(auto)]
 
 ghost use Rattle.arith.specs.Promises.{GcdPromise, LcmPromise, UpPromise, GreatestPromise, MagnitudePromise};

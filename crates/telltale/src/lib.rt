@@ -10,7 +10,8 @@ use answers::Refusal;
 // Elapsed ticks from here on are refused.
 const TOO_LONG: u32 = 2147483648;
 
-// Whether a reading is under way, its counter, the longest delay, and how many stamps were accepted.
+// Whether a reading is under way, its counter, the longest delay, and how many stamps were accepted. (The flag beside its counter is no
+// `Option`: C lends this record as `struct bellkettle_telltale`.)
 #[repr(C)]
 #[derive(Clone, Copy, Default, PartialEq, Eq)]
 pub struct Record {
@@ -20,7 +21,8 @@ pub struct Record {
     pub count: u16,
 }
 
-// What a stamp answers, its elapsed ticks or its refusal, and the record that it leaves.
+// What a stamp answers, its elapsed ticks or its refusal, and the record that it leaves. (With it stay `after_begin` and `after_stamp`, beside
+// `begin` and `stamp`: docs/CONTRACTS.md names both as calls for who holds a record by value.)
 #[derive(Clone, Copy)]
 pub struct Stamped {
     pub answer: Result<u32, Refusal>,

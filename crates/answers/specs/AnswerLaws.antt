@@ -18,6 +18,11 @@ pub also_given : {A : Type 0} (j : Judgement) (a : Answer A) {x : A} → also j 
 also_given (given u) a e = (refl, e)
 also_given (refused number values) a e = refused_given e
 
+-- What is refused, where nothing that comes after refuses, was refused on the way.
+pub after_refused : {A B : Type 0} (source : Answer A) (next : A → B) (r : Refusal) → after source (λ a. given (next a)) ≡ refusal r → source ≡ refusal r
+after_refused (given a) next r e = refused_given (sym e)
+after_refused (refused number values) next r e = let p : number ≡ number_in r = cc in let q : values ≡ values_in r = cc in cc
+
 pub when_fine : (b : Bool) (number : ℕ) → when b number ≡ fine → b ≡ false
 when_fine true number e = refused_given e
 when_fine false number e = refl

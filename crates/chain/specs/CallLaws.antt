@@ -9,7 +9,7 @@ use Rattle.theory.specs.Model.Schedule.{period, release}
 use Rattle.theory.specs.Model.Responses.{hyperperiod}
 use Rattle.answers.specs.declared.Refusal.{Refusal}
 use Rattle.answers.specs.Answers.{Answer, given, refused, Judgement, fine, when, after, also, number_in, refusal}
-use Rattle.answers.specs.AnswerLaws.{when_fine, also_given, after_given}
+use Rattle.answers.specs.AnswerLaws.{when_fine, also_given, after_given, after_refused}
 use Rattle.sheet.specs.declared.Sheet.{Sheet}
 use Rattle.sheet.specs.Calls.{judge_of}
 use Rattle.sheet.specs.Tasks.{tasks_of, chain_count, lacks, chain_of, first_of}
@@ -135,6 +135,15 @@ summary_in s number room e = let g = after_given (figures_of s number room) _ e 
 pub suite_given : (s : Sheet) (room : ℕ) {x : Suite} → suite_of s room ≡ given x → (totals : Totals) × (responses_of s room ≡ given totals) × (report_of s totals ≡ x)
 unfolding suite_of
 suite_given s room e = let g = after_given (responses_of s room) _ e in (g.0, g.1, cc g.2)
+
+-- What is refused of them is refused of what they are made of.
+pub figures_refused : (s : Sheet) (number room : ℕ) (r : Refusal) → task_figures_of s number room ≡ refusal r → figures_of s number room ≡ refusal r
+unfolding task_figures_of
+figures_refused s number room r e = after_refused (figures_of s number room) (with_tasks s) r e
+
+pub suite_refused : (s : Sheet) (room : ℕ) (r : Refusal) → suite_of s room ≡ refusal r → responses_of s room ≡ refusal r
+unfolding suite_of
+suite_refused s room r e = after_refused (responses_of s room) (report_of s) r e
 
 pub over_known : (s : Sheet) (number : ℕ) → lacks s number ≡ fine → over_limit s number ≡ after (sizes_of s) (λ size. refused 13 [])
 over_known s number known = known_sizes s number known _

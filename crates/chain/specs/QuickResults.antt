@@ -9,6 +9,7 @@ use Rattle.theory.specs.Model.Recurrence.{quick_response, Passing}
 use Rattle.theory.proofs.Analysis.QuickLaws.{quick_response_task, passing_late_task, late_task_passing, accepted_within}
 use Rattle.theory.proofs.Results.QuickBound.{quick_bound_same}
 use Rattle.answers.specs.Answers.{given, refused, fine}
+use Rattle.answers.specs.AnswerLaws.{after_given}
 use Rattle.sheet.specs.declared.Sheet.{Sheet}
 use Rattle.sheet.specs.PlaceLaws.{places_same}
 use Rattle.sheet.specs.SoundLaws.{judged_sound}
@@ -16,15 +17,19 @@ use Rattle.sheet.specs.Tasks.{tasks_of, lacks, chain_of, first_of, rest_of}
 use Rattle.sheet.specs.TaskLaws.{tasks_length, sound_proper, chain_known}
 use Rattle.schedule.specs.declared.answer.Totals.{Totals}
 use Rattle.schedule.specs.declared.answer.Size.{Size}
-use Rattle.schedule.specs.Calls.{sizes_of, responses_of, greatest_after}
+use Rattle.schedule.specs.declared.answer.TaskResponses.{TaskResponses}
+use Rattle.schedule.specs.Calls.{sizes_of, responses_of, task_responses_of, greatest_after}
 use Rattle.schedule.specs.CallLaws.{sizes_given}
 use Rattle.schedule.specs.Lateness.{GreatestLate}
 use Rattle.schedule.specs.Results.{responses_given, responses_15, late_responses}
 use Rattle.recurrence.specs.declared.answer.Bounds.{Bounds}
-use Rattle.recurrence.specs.Calls.{quick_of, responses_after}
+use Rattle.recurrence.specs.declared.answer.QuickBound.{QuickBound}
+use Rattle.recurrence.specs.CallLaws.{given_bound}
+use Rattle.recurrence.specs.Calls.{quick_of, quick_bound_of, responses_in, responses_after}
 use Rattle.recurrence.specs.Results.{quick_15, given_quick, late_quick}
 use Rattle.chain.specs.declared.answer.Summary.{Summary}
-use Rattle.chain.specs.Calls.{quick_bound, figures_of}
+use Rattle.chain.specs.declared.answer.TaskFigures.{TaskFigures}
+use Rattle.chain.specs.Calls.{quick_bound, figures_of, task_figures_of}
 use Rattle.chain.specs.CallLaws.{figures_given}
 
 module _ (s : Sheet) (number : ℕ) where
@@ -52,6 +57,27 @@ module _ (s : Sheet) (number : ℕ) where
         ap (λ a. responses_after a s) (filled_quick e)
         ∙ places_same 16 0 s.count (quick_response (tasks_of s)) (task_response (tasks_of s)) (λ i l m. quick_response_task g.accepted.proper i (omega (arith, tasks_length _ sound)))
         ∙ sym (ap (λ a. greatest_after a s) e)
+
+    -- So the values that `bound` answers are R of each task, as `task_responses` answers it,
+    pub bound_responses_same : {q : QuickBound} {x : TaskResponses} → quick_bound_of s number ≡ given q → task_responses_of s room ≡ given x → q.responses ≡ x.greatest
+    unfolding task_responses_of
+    bound_responses_same {q} e f =
+        let b = given_bound s number q (sym e) in
+        let g = after_given (responses_of s room) _ f in
+        let same : responses_in s ≡ greatest_after (given g.0) s =
+        sym (ap (λ a. responses_after a s) b.0) ∙ quick_responses_same g.1 ∙ ap (λ a. greatest_after a s) g.1 in
+        b.1 ∙ same ∙ cc g.2
+
+    -- and as `figures` does.
+    pub bound_figures_same : {q : QuickBound} {x : TaskFigures} → quick_bound_of s number ≡ given q → task_figures_of s number room ≡ given x → q.responses ≡ x.greatest
+    unfolding task_figures_of
+    bound_figures_same {q} e f =
+        let b = given_bound s number q (sym e) in
+        let g = after_given (figures_of s number room) _ f in
+        let h = (figures_given s number room g.1).totals_are in
+        let same : responses_in s ≡ greatest_after (given g.0) s =
+        sym (ap (λ a. responses_after a s) b.0) ∙ quick_responses_same h ∙ ap (λ a. greatest_after a s) h in
+        b.1 ∙ same ∙ cc g.2
 
   -- Where `figures` answers, both bounds are its own.
   pub quick_bound_is_reported : (room : ℕ) {x : Summary} (answer : figures_of s number room ≡ given x)

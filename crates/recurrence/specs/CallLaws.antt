@@ -11,7 +11,7 @@ use Rattle.theory.specs.Analysis.GreatestLaws.{IsGreatest}
 use Rattle.theory.proofs.Analysis.GreatestLaws.{greatest_is}
 use Rattle.answers.specs.declared.Refusal.{Refusal}
 use Rattle.answers.specs.Answers.{Answer, given, refused, Judgement, fine, after, also, refusal}
-use Rattle.answers.specs.AnswerLaws.{refused_given, after_given, also_given}
+use Rattle.answers.specs.AnswerLaws.{after_given, after_refused, also_given}
 use Rattle.sheet.specs.declared.Sheet.{Sheet}
 use Rattle.sheet.specs.declared.sound.Judged.{Judged}
 use Rattle.sheet.specs.Calls.{judge_of}
@@ -37,8 +37,7 @@ judged_fine j {a} {b} e = let x = also_given j (given a) (sym e) in (x.0, same (
 
 -- and what is refused was refused by it.
 pub judged_refused : {A : Type 0} (j : Judgement) (a : A) (r : Refusal) → ◌≡◌ {A = Answer A} (refusal r) (also j (given a)) → j ≡ refusal r
-judged_refused (given u) a r e = refused_given e
-judged_refused (refused n vs) a r e = cc
+judged_refused j a r e = after_refused j (λ u. a) r (sym e)
 
 -- A sheet that was judged is fine.
 pub sheet_judged : (s : Sheet) (x : Judged) → given x.sheet ≡ also (judge_of s) (given s) → (judge_of x.sheet ≡ fine) × (x.sheet ≡ s)
@@ -97,6 +96,10 @@ given_bound s number q e = (x.1 ∙ ap (λ q. given q.bounds) same, sym (ap (λ 
     same : record { bounds = x.0; responses = responses_in s } ≡ q
     same = cc x.2
 
+-- What is refused is refused of the bounds.
+pub bound_refused : (s : Sheet) (number : ℕ) (r : Refusal) → refusal r ≡ quick_bound_of s number → quick_of s number ≡ refusal r
+bound_refused s number r e = after_refused (quick_of s number) (λ b. record { bounds = b; responses = responses_in s }) r (sym e)
+
 -- ---- of every chain
 
 module _ (s : Sheet) where
@@ -122,6 +125,9 @@ module _ (s : Sheet) where
       → given (record { responses = xs; chains = bounds }) ≡ quick_suite_of s
   suite_given e is are =
       ap₂ (λ xs bounds. given (record { responses = xs; chains = bounds })) is are ∙ sym (ap (λ j. also j (given all)) e)
+
+  pub suite_not : (r : Refusal) → refusal r ≡ quick_suite_of s → suite_of s ≡ refusal r
+  suite_not r e = judged_refused (suite_of s) all r e
 
   -- What is given of a chain that the sheet has.
   pub quick_known : (number : ℕ) → lacks s number ≡ fine → quick_of s number ≡ also (suite_of s) (given (bounds_of (tasks_of s) (chain_of s number)))
@@ -200,8 +206,12 @@ module _ (s : Sheet) (ok : Sound s) {values : List ℕ} (are : values ≡ respon
   pub none_responding : passing_greatest (tasks_of s) (length (tasks_of s)) ≡ idle → Responding s values
   none_responding e = record { response_is = response_at; response_most = λ i l. ltb-false _ _ (found (tasks_of s) e i (omega (arith, tasks_length _ ok))) }
 
--- All tasks are looked at.
-pub found_all : (s : Sheet) → Sound s → {i : ℕ} (x : Option ℕ) {y : Option ℕ} → i ≡ s.count → FoundTo s i x → x ≡ y
+-- All tasks are looked at,
+pub found_all : (s : Sheet) → Sound s → {i : ℕ} (x : Option ℕ) → i ≡ s.count → FoundTo s i x
+    → passing_greatest (tasks_of s) (length (tasks_of s)) ≡ slot_of x
+found_all s ok x e f = ap (passing_greatest (tasks_of s)) (tasks_length _ ok ∙ sym e) ∙ f
+
+-- and that is what is refused, or nothing.
+pub found_late : (s : Sheet) → Sound s → {i : ℕ} (x : Option ℕ) {y : Option ℕ} → i ≡ s.count → FoundTo s i x → x ≡ y
     → lateness (passing_greatest (tasks_of s) (length (tasks_of s))) ≡ lateness (slot_of y)
-found_all s ok x e f is =
-    ap (λ n. lateness (passing_greatest (tasks_of s) n)) (tasks_length _ ok ∙ sym e) ∙ ap lateness f ∙ ap (λ x. lateness (slot_of x)) is
+found_late s ok x e f is = ap lateness (found_all s ok x e f) ∙ ap (λ x. lateness (slot_of x)) is

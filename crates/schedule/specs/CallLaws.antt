@@ -7,7 +7,7 @@ use Rattle.theory.specs.Model.Schedule.{idle, busy}
 use Rattle.theory.specs.Model.Responses.{hyperperiod, all_jobs, idle_ticks}
 use Rattle.answers.specs.declared.Refusal.{Refusal}
 use Rattle.answers.specs.Answers.{Answer, given, refused, fine, when, after, refusal}
-use Rattle.answers.specs.AnswerLaws.{when_fine, also_given}
+use Rattle.answers.specs.AnswerLaws.{when_fine, also_given, after_refused}
 use Rattle.sheet.specs.declared.Sheet.{Sheet}
 use Rattle.sheet.specs.Calls.{judge_of}
 use Rattle.sheet.specs.Tasks.{tasks_of}
@@ -87,6 +87,10 @@ module _ (s : Sheet) (room : ℕ) where
   pub task_responses_refused : (r : Refusal) → responses_of s room ≡ refusal r → task_responses_of s room ≡ refusal r
   unfolding task_responses_of
   task_responses_refused r e = rw e
+
+  pub task_responses_no : (r : Refusal) → task_responses_of s room ≡ refusal r → responses_of s room ≡ refusal r
+  unfolding task_responses_of
+  task_responses_no r e = after_refused (responses_of s room) (with_greatest s) r e
 
   pub task_responses_full : {totals : Totals} → responses_of s room ≡ given totals → task_responses_of s room ≡ given (with_greatest s totals)
   unfolding task_responses_of

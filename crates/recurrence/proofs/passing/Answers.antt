@@ -1,7 +1,7 @@
 -- After i turns the greatest-ranked of the first i that passes its period is found.
 use Rattle.std.proofs.Common.{◌≡◌, refl, sym, ap, ◌∙◌, subst, arith}
 use Rattle.theory.specs.Model.Greatest.{greatest}
-use Rattle.recurrence.specs.CallLaws.{FoundTo, takes, found_known, found_more, found_lower, found_same, found_all}
+use Rattle.recurrence.specs.CallLaws.{FoundTo, takes, found_known, found_more, found_lower, found_same, found_late}
 use Rattle.recurrence.proofs.passing.Goals.{Joined-task-responses, in-Some, in-None, then-task-responses+then-outranks, else-task-responses, else-task-responses-via-then-task-responses+else-outranks, else-task-responses-via-else-task-responses}
 use Rattle.recurrence.proofs.passing.Goals as goal
 
@@ -38,7 +38,7 @@ loop-i-preserved c =
     ]
 
 pub returns-in-Some-late : goal.returns-in-Some-late
-returns-in-Some-late c = sym (found_all c.args.s.sheet c.args.s.sound c.loop-i.late (omega arith) c.loop-i.invariant c.in-Some-late.is)
+returns-in-Some-late c = sym (found_late c.args.s.sheet c.args.s.sound c.loop-i.late (omega arith) c.loop-i.invariant c.in-Some-late.is)
 
 pub returns-in-None-late : goal.returns-in-None-late
-returns-in-None-late c = sym (found_all c.args.s.sheet c.args.s.sound c.loop-i.late (omega arith) c.loop-i.invariant c.in-None-late.is)
+returns-in-None-late c = sym (found_late c.args.s.sheet c.args.s.sound c.loop-i.late (omega arith) c.loop-i.invariant c.in-None-late.is)

@@ -17,10 +17,10 @@ use Rattle.answers.specs.Answers.{fine}
 use Rattle.sheet.specs.declared.Chain.{Chain}
 use Rattle.sheet.specs.declared.Sheet.{Sheet}
 use Rattle.sheet.specs.Sound.{Sound}
-use Rattle.sheet.specs.Tasks.{tasks_of, lacks, chain_at, first_of, rest_of}
+use Rattle.sheet.specs.Tasks.{tasks_of, lacks, chain_at, first_of, rest_of, entries_of}
 use Rattle.sheet.specs.TaskLaws.{tasks_length, task_at_lem, period_at, task_allowed, chain_place, entry_listed, chain_known}
 use Rattle.recurrence.specs.Calls.{pair_added, bound_by, bounds_of}
-use Rattle.recurrence.specs.Conditions.{most_period, most_bound, Responding, ChainOn, ChainIn, entries_of, pair_of}
+use Rattle.recurrence.specs.Conditions.{most_period, most_bound, Responding, ChainOn, ChainIn, pair_of}
 
 -- The least multiple is less than one after it.
 pub up_most : (T x : ℕ) → up T x ≤ x + T

@@ -29,11 +29,9 @@ higher_allowed s ok own e = subst (λ ts. (length ts ≤ 16) × All Allowed ts) 
     test : Task → Bool
     test t = ltb own t.rank
 
--- They are found once all places are looked at.
-pub higher_is : (s : Sheet) (own n : ℕ) → length (take s.count s.tasks) ≤ n
-    → filter (λ t. ltb own t.rank) (take n (take s.count s.tasks)) ≡ higher (tasks_of s) own
-unfolding tasks_of
-higher_is s own n m = ap (filter (λ t. ltb own t.rank)) (take_all n (take s.count s.tasks) m)
+-- They are found once all tasks are looked at.
+pub higher_is : (s : Sheet) (own : ℕ) {ts : List Task} → ts ≡ tasks_of s → (n : ℕ) → length ts ≤ n → filter (λ t. ltb own t.rank) (take n ts) ≡ higher (tasks_of s) own
+higher_is s own {ts} e n m = ap (filter (λ t. ltb own t.rank)) (take_all n ts m ∙ e)
 
 -- ---- the claim
 

@@ -11,7 +11,7 @@ use Rattle.sheet.specs.declared.Sheet.{Sheet}
 use Rattle.sheet.specs.declared.sound.Judged.{Judged}
 use Rattle.sheet.specs.Lateness.{lateness}
 use Rattle.recurrence.specs.Calls.{passing_greatest, responses_in}
-use Rattle.sheet.specs.Tasks.{tasks_of, first_of, rest_of}
+use Rattle.sheet.specs.Tasks.{tasks_of, entries_of, first_of, rest_of}
 
 -- A period is at most 100,000; then a task claims at most 200,000 of so many ticks, and sixteen with a budget at most 3,300,000; a pair adds
 -- at most 200,000 to a bound, and a chain of sixteen tasks has one of at most 3,100,000.
@@ -60,10 +60,7 @@ pub record ChainOn (s : Sheet) (chain : List ℕ) : Type 0 where
   pub some : 1 ≤ length chain
   pub few : length chain ≤ 16
 
--- A chain's entries are in the first places of sixteen.
-abbrev pub entries_of : SheetChain → List ℕ
-entries_of chain = take chain.length chain.entries
-
+-- The entries of a chain are one.
 pub record ChainIn (s : Sheet) (chain : SheetChain) : Type 0 where
   pub is_chain : Chain (tasks_of s) (first_of (entries_of chain)) (rest_of (entries_of chain))
   pub entry_below : (j : ℕ) → j < length (entries_of chain) → get_or (entries_of chain) j 0 < s.count

@@ -10,11 +10,11 @@ ghost use Rattle.std.specs.Result.{IfOk, IfErr};
 ghost use Rattle.theory.specs.Model.Recurrence.{quick_response};
 ghost use Rattle.theory.specs.Model.Schedule.{rank};
 ghost use Rattle.answers.specs.Answers.{refusal, told};
-ghost use Rattle.sheet.specs.Tasks.{tasks_of, chain_count};
+ghost use Rattle.sheet.specs.Tasks.{tasks_of, entries_of, chain_count};
 ghost use Rattle.sheet.specs.TaskLaws.{Allowed};
 ghost use Rattle.sheet.specs.Lateness.{lateness};
 ghost use Rattle.recurrence.specs.Calls.{passing_greatest, bound_by, bounds_of, responses_in, bounds_to};
-ghost use Rattle.recurrence.specs.Conditions.{most_period, higher, Gathered, claim_in, Responding, ChainOn, ChainIn, entries_of, Timely};
+ghost use Rattle.recurrence.specs.Conditions.{most_period, higher, Gathered, claim_in, Responding, ChainOn, ChainIn, Timely};
 ghost use Rattle.recurrence.specs.Promises.{BoundPromise, PairBoundPromise, SuitePromise};
 
 pub use answer::{Bounds, QuickBound, QuickSuite};
@@ -27,9 +27,8 @@ use theory::Task;
 fn gather(s: Judged, rank: u8, outranking: &mut [Task; 16]) -> usize
     ensures { Gathered s.sheet rank outranking.new result }
 {
-    let n = s.sheet.count as usize;
     let mut size = 0;
-    for task in &s.sheet.tasks[..n] {
+    for task in s.tasks() {
         if rank < task.rank {
             outranking[size] = *task;
             size += 1;
@@ -162,7 +161,7 @@ impl Responses {
         ensures { result ≡ bounds_of (tasks_of self.now.judged.sheet) (entries_of chain) }
     {
         let first = usize::from(chain.entries[0]);
-        let sampling_bound = self.bound_along(&chain.entries[..chain.length as usize]);
+        let sampling_bound = self.bound_along(chain.tasks());
         let bound = sampling_bound + (self.judged.sheet.tasks[first].period - 1);
         Bounds {
             sampling_bound,

@@ -5,9 +5,9 @@ use Rattle.answers.specs.Answers.{given, refusal, fine}
 use Rattle.sheet.specs.Calls.{judge_of}
 use Rattle.sheet.specs.declared.sound.Judged.{Judged}
 use Rattle.sheet.specs.declared.Chain.{Chain}
-use Rattle.sheet.specs.Tasks.{tasks_of, lacks, chain_at}
+use Rattle.sheet.specs.Tasks.{tasks_of, lacks, chain_at, entries_of}
 use Rattle.recurrence.specs.Calls.{bounds_of, quick_bound_of}
-use Rattle.recurrence.specs.Conditions.{ChainIn, entries_of}
+use Rattle.recurrence.specs.Conditions.{ChainIn}
 use Rattle.recurrence.specs.BoundLaws.{chain_in}
 use Rattle.recurrence.specs.CallLaws.{judged_fine, judged_refused, sheet_judged, quick_refused, quick_lacking, quick_passing, refused_alone, bound_given, quick_fits}
 use Rattle.recurrence.proofs.bound.Goals.{In_ok-judged, In_ok-chain}

@@ -4,10 +4,10 @@ use Rattle.bits.specs.Bits.{list_of}
 use Rattle.sheet.specs.declared.Sheet.{Sheet}
 use Rattle.sheet.specs.Fields.{idle}
 use Rattle.sheet.specs.PlaceLaws.{places_set}
-use Rattle.sheet.specs.Tasks.{tasks_of, chain_at, chain_of}
+use Rattle.sheet.specs.Tasks.{tasks_of, chain_at, chain_of, entries_of}
 use Rattle.sheet.specs.TaskLaws.{chains_most, number_known}
 use Rattle.recurrence.specs.Calls.{bounds_of, no_bounds}
-use Rattle.recurrence.specs.Conditions.{ChainIn, entries_of}
+use Rattle.recurrence.specs.Conditions.{ChainIn}
 use Rattle.recurrence.specs.BoundLaws.{chain_in}
 use Rattle.recurrence.proofs.Responses.each_bounds.Goals as goal
 

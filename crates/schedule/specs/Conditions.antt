@@ -13,7 +13,6 @@ use Rattle.answers.specs.Answers.{told}
 use Rattle.schedule.specs.declared.answer.Size.{Size}
 use Rattle.schedule.specs.declared.answer.Totals.{Totals}
 use Rattle.schedule.specs.declared.cycle.Lowest.{Lowest}
-use Rattle.schedule.specs.declared.level.Level.{Level}
 use Rattle.schedule.specs.declared.level.Place.{Place}
 use Rattle.schedule.specs.declared.walk.Next.{Next}
 use Rattle.schedule.specs.Calls.{most_ticks, late_task, late_greatest, filled_of, row, rows, table_after}
@@ -30,10 +29,6 @@ place_of task = record { period = task.period; budget = task.budget; next = 0 }
 
 abbrev pub place_at : List Place → ℕ → Place
 place_at places p = get_or places p (place_of none)
-
--- The places of a level that are taken.
-abbrev pub taken : Level → List Place
-taken level = take level.size level.places
 
 -- A sum over places, of a number of their periods and budgets.
 abbrev pub over : (ℕ → ℕ → ℕ) → List Place → ℕ

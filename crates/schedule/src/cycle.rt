@@ -19,9 +19,9 @@ const MOST_JOBS: u32 = 8192;
 
 // The lowest-ranked task, with the ticks in which its level rests.
 #[derive(Clone, Copy)]
-pub(crate) struct Lowest {
-    pub(crate) task: u8,
-    pub(crate) rests: u32,
+struct Lowest {
+    task: u8,
+    rests: u32,
 }
 
 // The tasks of a sheet that is judged fine, with H and J, which are within their limits.
@@ -45,7 +45,8 @@ fn hyperperiod(tasks: &[Task]) -> Option<u32>
     Some(multiple)
 }
 
-// The jobs of all tasks before tick h, the hyperperiod.
+// The jobs of all tasks before tick h, the hyperperiod. A loop: for `map` and `sum` the check asks of each closure call that it may be
+// made and of the whole sum that it fits, and no short answer closed.
 fn job_count(tasks: &[Task], h: u32) -> u32
     requires fine { Fine tasks.now }
     requires hyperperiod { h ≡ hyperperiod tasks.now }
@@ -67,7 +68,7 @@ impl<'a> Cycle<'a> {
     ghost use Rattle.sheet.specs.Calls.{places};
     ghost use Rattle.sheet.specs.Tasks.{tasks_of};
     ghost use Rattle.schedule.specs.Calls.{sizes_of};
-    ghost use Rattle.schedule.specs.Conditions.{taken, Above, RowFilled, Noted, FoundTo, Filled, FilledAs};
+    ghost use Rattle.schedule.specs.Conditions.{Above, RowFilled, Noted, FoundTo, Filled, FilledAs};
     ghost use Rattle.schedule.specs.Taken.{Holds};
 
     // For a sheet that is judged fine and keeps the limits of H and J.
@@ -88,7 +89,7 @@ impl<'a> Cycle<'a> {
         })
     }
 
-    // The jobs of task i.
+    // The jobs of task i; here and below a task is named by its index, as the row, the table and the answer go by it.
     fn jobs_of(&self, i: usize) -> usize
         requires { i < length self.now.tasks.now }
         ensures { result ≡ jobs self.now.tasks.now i }
@@ -99,7 +100,7 @@ impl<'a> Cycle<'a> {
     // The tasks that outrank task i.
     fn level(&self, i: usize) -> Level
         requires { i < length self.now.tasks.now }
-        ensures { Above self.now.tasks.now (rank self.now.tasks.now i) (taken result) }
+        ensures { Above self.now.tasks.now (rank self.now.tasks.now i) result }
     {
         let own = self.tasks[i].rank;
         let mut level = Level::default();
@@ -118,13 +119,11 @@ impl<'a> Cycle<'a> {
         ensures { RowFilled self.now.tasks.now i row.new result }
     {
         let mut level = self.level(i);
-        let size = level.size;
-        let others = &mut level.places[..size];
         walk_row(
             Place::from(self.tasks[i]),
-            others,
+            level.places(),
             self.size.hyperperiod,
-            &mut *row,
+            row,
         )
     }
 
@@ -140,21 +139,11 @@ impl<'a> Cycle<'a> {
         let rank = self.tasks[i].rank;
         match (found, row) {
             (Err(late), Some(_)) => Err(late),
-            (Err(late), None) => {
-                if self.tasks[late as usize].rank < rank {
-                    Err(index)
-                } else {
-                    Err(late)
-                }
-            }
+            (Err(late), None) if self.tasks[late as usize].rank < rank => Err(index),
+            (Err(late), None) => Err(late),
             (Ok(_), None) => Err(index),
-            (Ok(lowest), Some(rests)) => {
-                if rank <= self.tasks[lowest.task as usize].rank {
-                    Ok(Lowest { task: index, rests })
-                } else {
-                    Ok(lowest)
-                }
-            }
+            (Ok(lowest), Some(_)) if self.tasks[lowest.task as usize].rank < rank => Ok(lowest),
+            (Ok(_), Some(rests)) => Ok(Lowest { task: index, rests }),
         }
     }
 
@@ -163,6 +152,7 @@ impl<'a> Cycle<'a> {
         requires room { all_jobs self.now.tasks.now ≤ length table.old }
         ensures { Filled self.now.tasks.now (length self.now.tasks.now) (all_jobs self.now.tasks.now) table.old table.new result }
     {
+        // Until the first row is noted, which takes its place: an Option for none yet would be there at the end too, where there is one.
         let mut found = Ok(Lowest { task: 0, rests: 0 });
         let mut from = 0usize;
         for i in 0..self.tasks.len() {
@@ -182,7 +172,7 @@ impl<'a> Cycle<'a> {
         if table.len() < jobs {
             return Err(Refusal::Room);
         }
-        match self.fill_rows(&mut *table) {
+        match self.fill_rows(table) {
             Err(task) => {
                 table[..jobs].fill(0);
                 Err(Refusal::Late(task))

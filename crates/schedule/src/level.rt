@@ -1,6 +1,7 @@
 // The places of a level: tasks of one period are released together, so they take one.
 ghost use Rattle.std.specs.Prelude.{◌≤◌, length};
 
+use std::marker::Model;
 use theory::Task;
 
 // Tasks of one period: what a release of them brings, and when the next one is.
@@ -41,20 +42,28 @@ impl Place {
     }
 }
 
-// The first `size` of sixteen places.
+// The places in use, the first `size` of sixteen: fixed memory is a rule of the project, so this is no Vec.
 #[derive(Drop)]
 pub(crate) struct Level {
-    pub(crate) places: [Place; 16],
-    pub(crate) size: usize,
-    ghost few: { size ≤ length places },
+    places: [Place; 16],
+    size: usize,
 }
 
-// No place is taken.
+impl Model for Level {
+    ghost use Rattle.std.specs.Prelude.{◌≤◌, List, take};
+    ghost use Rattle.schedule.specs.declared.level.Place.{Place};
+
+    ghost Value = { List Place };
+
+    ghost view = { λ level. take level.size level.places };
+
+    ghost invariant = { λ level. level.size ≤ 16 };
+}
+
 impl Default for Level {
     ghost use Rattle.std.specs.Prelude.{◌≡◌, []};
-    ghost use Rattle.schedule.specs.Conditions.{taken};
 
-    ghost is_default = { λ level. taken level ≡ [] };
+    ghost is_default = { λ level. level ≡ [] };
 
     fn default() -> Level {
         Level {
@@ -65,14 +74,21 @@ impl Default for Level {
 }
 
 impl Level {
-    ghost use Rattle.std.specs.Prelude.{◌+◌, ◌<◌, ◌^◌, ℕ};
-    ghost use Rattle.schedule.specs.Conditions.{place_at, taken, Adds};
+    ghost use Rattle.std.specs.Prelude.{◌≡◌, ◌+◌, ◌<◌, ◌^◌, ℕ};
+    ghost use Rattle.schedule.specs.Conditions.{place_at, Adds};
+
+    // The places in use.
+    pub(crate) fn places(&mut self) -> &mut [Place]
+        ensures { result.now ≡ self.old }
+    {
+        &mut self.places[..self.size]
+    }
 
     // A task more, in the place of its period or in one of its own.
     pub(crate) fn add(&mut self, task: Task)
-        requires room { self.old.size < 16 }
-        requires fits { (p : ℕ) → p < self.old.size → (place_at self.old.places p).budget + task.budget < 2 ^ 32 }
-        ensures { Adds (taken self.old) task (taken self.new) }
+        requires room { length self.old < 16 }
+        requires fits { (p : ℕ) → p < length self.old → (place_at self.old p).budget + task.budget < 2 ^ 32 }
+        ensures { Adds self.old task self.new }
     {
         let own = self.places[..self.size]
             .iter()

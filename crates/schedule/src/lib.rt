@@ -29,7 +29,7 @@ pub fn responses(s: Sheet, table: &mut [u32]) -> Result<Totals, Refusal>
     ensures { ResponsesPromise s table.old result table.new }
 {
     let cycle = Cycle::of(&s)?;
-    cycle.fill(&mut *table)
+    cycle.fill(table)
 }
 
 // The job table as `responses` answers and leaves it, with "R, the greatest response" of each task in its place.
@@ -37,7 +37,7 @@ pub fn task_responses(s: Sheet, table: &mut [u32]) -> Result<TaskResponses, Refu
     ensures { TaskResponsesPromise s table.old result table.new }
 {
     let cycle = Cycle::of(&s)?;
-    let totals = cycle.fill(&mut *table)?;
+    let totals = cycle.fill(table)?;
     let greatest = cycle.greatest(table);
     Ok(TaskResponses { totals, greatest })
 }

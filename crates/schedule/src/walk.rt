@@ -6,9 +6,9 @@ use super::level::Place;
 
 // The tick by which the work of a level is done, and the earliest of its next releases.
 #[derive(Clone, Copy)]
-pub(crate) struct Next {
-    pub(crate) clear: u32,
-    pub(crate) soon: u32,
+struct Next {
+    clear: u32,
+    soon: u32,
 }
 
 // The releases of a level at a tick: by when its work is done with what they bring, and the earliest of the next ones. A place whose
@@ -45,8 +45,9 @@ pub(crate) fn walk_row(mut own: Place, others: &mut [Place], h: u32, row: &mut [
     let mut rests = 0u32;
     let mut release = 0u32;
     let mut k = 0usize;
+    // `at` goes from release to release, and `k` on only where a job is done, so neither is a range's or an iterator's index.
     while at < h {
-        let now = turn(&mut own, &mut *others, at, clear);
+        let now = turn(&mut own, others, at, clear);
         clear = now.clear;
         if now.soon < clear {
             if release + own.period <= now.soon {

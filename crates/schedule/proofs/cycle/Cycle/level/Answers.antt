@@ -1,9 +1,5 @@
 -- Each task that outranks the rank adds its budget to the place of its period, or takes the next place, so what the places bring is what these tasks bring.
-use Rattle.std.proofs.Common.{◌<◌, ap, length, length-take-le, arith}
-use Rattle.std.proofs.Math.Seq.{get_or-take}
-use Rattle.theory.specs.Model.Schedule.{none}
-use Rattle.schedule.specs.declared.level.Place.{Place}
-use Rattle.schedule.specs.Conditions.{place_of, taken}
+use Rattle.std.proofs.Common.{arith}
 use Rattle.schedule.proofs.Gathered.{gather_start, gather_more, gather_out}
 use Rattle.schedule.proofs.cycle.Cycle.level.Goals.{then-own-task, else-own-task}
 use Rattle.schedule.proofs.cycle.Cycle.level.Goals as goal
@@ -14,16 +10,14 @@ loop-task-init c = rw c.default-level.ensures gather_start
 pub add-requires-clause-room : goal.add-requires-clause-room
 add-requires-clause-room c =
     let l = c.loop-task in
-    omega (arith, l.invariant.within, length-take-le l.level.size l.level.places l.level.few, c.args.self.now.fine.few)
+    omega (arith, l.invariant.within, c.args.self.now.fine.few)
 
 pub add-requires-clause-fits : goal.add-requires-clause-fits
 add-requires-clause-fits c = λ p k.
     let l = c.loop-task in
-    let known : p < length (taken l.level) = omega (arith, length-take-le l.level.size l.level.places l.level.few) in
     omega (
       arith,
-      l.invariant.budgets_most p known,
-      ap (λ (x : Place). x.budget) (get_or-take l.level.size l.level.places p (place_of none) k),
+      l.invariant.budgets_most p k,
       c.args.self.now.fine.allowed l.task-index (omega arith),
       c.args.self.now.fine.few,
     )

@@ -10,14 +10,14 @@ returns-in-Err-Some c =
     let r = c.requires in
     on_time_late ts c.args.i (subst (FoundTo ts c.args.i) c.in-Err-Some.is-0 r.found_before) (subst (Noted ts c.args.i) c.in-Err-Some.is-1 r.row_noted).0
 
-pub returns-then-self-late : goal.returns-then-self-late
-returns-then-self-late c =
+pub returns-in-Err-None : goal.returns-in-Err-None
+returns-in-Err-None c =
     let ts = c.args.self.now.tasks.now in
     let r = c.requires in
     late_greater ts c.args.i (subst (FoundTo ts c.args.i) c.in-Err-None.is-0 r.found_before) (subst (Noted ts c.args.i) c.in-Err-None.is-1 r.row_noted) c.if-self-late.true
 
-pub returns-else-self-late : goal.returns-else-self-late
-returns-else-self-late c =
+pub returns-in-Err-None-2 : goal.returns-in-Err-None-2
+returns-in-Err-None-2 c =
     let ts = c.args.self.now.tasks.now in
     let r = c.requires in
     late_kept ts c.args.i (subst (FoundTo ts c.args.i) c.in-Err-None.is-0 r.found_before) (subst (Noted ts c.args.i) c.in-Err-None.is-1 r.row_noted) c.if-self-late.false
@@ -28,16 +28,15 @@ returns-in-Ok-None c =
     let r = c.requires in
     late_first ts c.args.i (subst (FoundTo ts c.args.i) c.in-Ok-None.is-0 r.found_before) (subst (Noted ts c.args.i) c.in-Ok-None.is-1 r.row_noted)
 
-pub returns-then-rank-self : goal.returns-then-rank-self
-returns-then-rank-self c =
+pub returns-in-Ok-Some : goal.returns-in-Ok-Some
+returns-in-Ok-Some c =
     let ts = c.args.self.now.tasks.now in
     let r = c.requires in
-    let n = subst (Noted ts c.args.i) c.in-Ok-Some.is-1 r.row_noted in
-    on_time_lowest ts c.args.i (subst (FoundTo ts c.args.i) c.in-Ok-Some.is-0 r.found_before) n.0 n.1 c.if-rank-self.true
+    on_time_kept ts c.args.i (subst (FoundTo ts c.args.i) c.in-Ok-Some.is-0 r.found_before) (subst (Noted ts c.args.i) c.in-Ok-Some.is-1 r.row_noted).0 c.if-self-lowest.true
 
-pub returns-else-rank-self : goal.returns-else-rank-self
-returns-else-rank-self c =
+pub returns-in-Ok-Some-2 : goal.returns-in-Ok-Some-2
+returns-in-Ok-Some-2 c =
     let ts = c.args.self.now.tasks.now in
     let r = c.requires in
     let n = subst (Noted ts c.args.i) c.in-Ok-Some.is-1 r.row_noted in
-    on_time_kept ts c.args.i (subst (FoundTo ts c.args.i) c.in-Ok-Some.is-0 r.found_before) n.0 c.if-rank-self.false
+    on_time_lowest ts c.args.i (subst (FoundTo ts c.args.i) c.in-Ok-Some.is-0 r.found_before) n.0 n.1 c.if-self-lowest.false

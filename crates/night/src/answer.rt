@@ -2,7 +2,7 @@
 use chain::Figure;
 
 // The longest delay of a path followed, in ticks, with the smallest job number that has it.
-#[derive(Clone, Copy, Default, PartialEq, Eq)]
+#[derive(Clone, Copy, PartialEq, Eq)]
 pub struct Longest {
     pub ticks: u32,
     pub job: u32,

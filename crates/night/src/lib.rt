@@ -29,14 +29,11 @@ use sheet::sound::Judged;
 use state::{Found, Place, Progress, Readings, Record, State};
 use theory::Task;
 
-// "The replay follows chain one."
-const CHAIN_ONE: u8 = 1;
-
 // The tick at which a job is released.
 fn release(job: u32, period: u32) -> u64
     ensures { result ≡ job * period }
 {
-    job as u64 * period as u64
+    u64::from(job) * u64::from(period)
 }
 
 // Of task i and the best so far the one of greater rank.
@@ -65,6 +62,7 @@ impl State<'_> {
     }
 
     // What runs at a tick: of the tasks whose next job is released, the one of greatest rank.
+    // (Recurrence's `passing` looks for such a task by another test. That the two stay two has its reason there.)
     fn turn(&self, at: u32) -> Option<u8>
         ensures { (slot result ≡ turn self.now.tasks.now (ended_in self.now.jobs) at) × known (length self.now.tasks.now) result }
     {
@@ -126,7 +124,7 @@ impl State<'_> {
         true
     }
 
-    // The start of a job, at the state's tick.
+    // The start of a job, at the state's tick. That its task is one of the sheet's is what an index asks, here and below.
     fn start(&mut self, task: u8) -> bool
         requires { (task < length self.old.tasks.now) × (self.old.tick < most_time) }
         ensures { Led self.old result self.new (accept self.old.tasks.now (state_of self.old) (start task self.old.tick)) }
@@ -186,7 +184,7 @@ impl State<'_> {
 fn since(job: u32, period: u32, at: u32) -> u32
     ensures { result ≡ at - job * period }
 {
-    (at as u64).saturating_sub(release(job, period)) as u32
+    u64::from(at).saturating_sub(release(job, period)) as u32
 }
 
 // The longer of two delays, the first where they are equal.
@@ -213,7 +211,9 @@ impl Readings<'_> {
         }
     }
 
-    // A start: the task's job reads what waits at its place, a new reading at the first place.
+    // A start: the task's job reads what waits at its place, a new reading at the first place. The places go by index here and in `write`:
+    // with `&mut self.places[q]` in a local, tried, goals about that local stayed open. The two loops stay two: with a closure for the step
+    // their invariants would have to become a clause of it.
     fn read(&mut self, task: u8)
         requires { written_in self.old.places 0 < 4294967295 }
         ensures { Along self.old self.new (read_by self.old.chain.now task (readings_of self.old)) }
@@ -329,7 +329,7 @@ fn replayed(s: Judged, log: &[u8], figure: Figure) -> Replayed
     }
 }
 
-// Does the log agree with the sheet, and what delays does it show? The refusals of H and J, 14 and the log's come before the table is touched.
+// Does the log agree with the sheet, and what delays does it show? The refusals of H and J, `Room` and the log's come before the table is touched.
 pub fn replay(s: Sheet, log: &[u8], table: &mut [u32]) -> Result<Replayed, Refusal>
     ensures { ReplayPromise s log.now table.old result table.new }
 {
@@ -338,7 +338,8 @@ pub fn replay(s: Sheet, log: &[u8], table: &mut [u32]) -> Result<Replayed, Refus
         return Err(Refusal::Room);
     }
     clocklog::judge(log, s.count)?;
-    let figures = chain::figures(s, CHAIN_ONE, table)?;
+    // "The replay follows chain one."
+    let figures = chain::figures(s, 1, table)?;
     let judged = Judged { sheet: s };
     Ok(replayed(judged, log, figures.summary.sampling))
 }

@@ -1,5 +1,5 @@
 -- What runs in the tick before the record ran in the whole gap, for nothing starts or ends in it.
-use Rattle.std.proofs.Common.{◌≡◌, ◌-◌, true, refl, sym, ◌∙◌, subst, arith}
+use Rattle.std.proofs.Common.{◌≡◌, ◌-◌, true, refl, sym, ◌∙◌, subst, length, arith, rules}
 use Rattle.theory.specs.Model.Schedule.{busy, idle}
 use Rattle.night.specs.Pass.{quiet}
 use Rattle.night.specs.Conditions.{Room, state_of, ran_in}
@@ -38,19 +38,20 @@ returns-clause-state_after c =
     let at = c.args.at in
     let goes = sym c.goes_on.ensures ∙ c.if-not-goes_on.false in
     let still : quiet ts (ran_in s.jobs) (at - s.tick) (slot c.turn-x.result) ≡ true = sym c.if-not-is_quiet.ensures.is_quiet in
+    let whole : length s.jobs ≡ 16 = search rules in
     elim c.match-x.branch [
       | in-Some w ↦ record {
         tasks_same = refl;
         leads = rw (w.self-is, w.x-is)
             (wait_goes ts (state_of s) at c.if-at-self.false goes (busy w.in-Some.i) w.in-Some.ensures.0
             (subst (λ x. quiet ts (ran_in s.jobs) (at - s.tick) (slot x) ≡ true) w.in-Some.is still) _
-            (stretched_some s.jobs s.whole s.tick at (slot s.last) w.in-Some.i (omega (arith, w.in-Some.ensures.1, c.args.self.now.few))));
+            (stretched_some s.jobs whole s.tick at (slot s.last) w.in-Some.i (omega (arith, w.in-Some.ensures.1, c.args.self.now.few))));
       }
       | in_default w ↦ record {
         tasks_same = refl;
         leads = rw (w.self-is, w.x-is, w.in_default.is)
             (wait_goes ts (state_of s) at c.if-at-self.false goes idle w.in_default.ensures.0
             (subst (λ x. quiet ts (ran_in s.jobs) (at - s.tick) (slot x) ≡ true) w.in_default.is still) _
-            (stretched_none s.jobs s.whole s.tick at (slot s.last)));
+            (stretched_none s.jobs whole s.tick at (slot s.last)));
       }
     ]

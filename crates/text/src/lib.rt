@@ -4,7 +4,7 @@
 #![tactic(auto)]
 
 ghost use Rattle.std.specs.Prelude.{◌≡◌, List, [], map, ◌++◌, ℕ, ◌+◌, ◌≤◌, min, length, set, take};
-ghost use Rattle.text.specs.Shown.{numeral, task_line, task_lines, entry_words, limit_words, chain_line, chain_lines, chain_count, text_of};
+ghost use Rattle.text.specs.Shown.{numeral, task_line, task_lines, entry_words, limit_words, chain_line, chain_lines, chain_count, text_of, Puts};
 ghost use Rattle.text.specs.Words.{ends, word, digit, name_byte, every, number, keyword, index, says};
 ghost use Rattle.text.specs.Grammar.{missing, fresh, wanting, with_edition, task_in, with_task, task_more, chain_in, with_chain, chain_more, opened, next_task, next_chain, at_edition, at_period, at_budget, ranked, at_rank, repeated, longer, at_entry, at_limit, at_limit_number, step, line_end, text_end, typed};
 ghost use Rattle.text.specs.Run.{place_after, begins, turn, named, run, nameless, faulty, placed, located};
@@ -12,6 +12,7 @@ ghost use Rattle.text.specs.Promises.{ShowPromise, ParsePromise, NumberPromise};
 ghost use Rattle.text.specs.declared.Place.TheVariants.{Between};
 
 use answers::Refusal;
+use arrayvec::ArrayVec;
 use sheet::{Chain, Sheet};
 use std::fmt;
 use std::marker::Model;
@@ -19,51 +20,33 @@ use theory::Task;
 
 // ---- a sheet shown
 
-// The front of a text. Every sheet's has room (specs/SizeLaws.antt).
+// The front of a text: what passes the end is dropped. Every sheet's text has room (specs/SizeLaws.antt).
 #[derive(Drop)]
-struct Page {
-    bytes: [u8; 4096],
-    len: usize,
-}
+struct Page(ArrayVec<u8, 4096>);
 
 impl Model for Page {
     ghost Value = { List ℕ };
 
-    ghost view = { λ p. take p.len p.bytes };
-
-    ghost invariant = { λ p. p.len ≤ 4096 };
+    ghost view = { λ p. p.0.items };
 }
 
 impl Page {
-    fn new() -> Self
-        ensures { result ≡ [] }
-    {
-        Page {
-            bytes: [0; 4096],
-            len: 0,
-        }
-    }
-
     fn as_slice(&self) -> &[u8]
-        ensures { result.now ≡ self.now }
+        ensures { result.now ≡ take 4096 self.now }
     {
-        &self.bytes[..self.len]
+        self.0.as_slice()
     }
 
     fn put(&mut self, bytes: &[u8])
-        requires { length self.old + length bytes.now ≤ 4096 }
-        ensures { self.new ≡ self.old ++ bytes.now }
+        ensures { Puts self.old bytes.now self.new }
     {
-        let end = self.len + bytes.len();
-        self.bytes[self.len..end].copy_from_slice(bytes);
-        self.len = end;
+        let room = self.0.remaining_capacity().min(bytes.len());
+        let _fits = self.0.try_extend_from_slice(&bytes[..room]);
     }
 
-    // A number after its label.
+    // A number after its label. Not by `write!`, of which a clause knows nothing where it fails: `show` refuses a small buffer alone (ShowPromise).
     fn put_number(&mut self, label: &[u8], n: u32)
-        requires { length self.old + length label.now ≤ 4076 }
-        ensures text { self.new ≡ self.old ++ (label.now ++ numeral n) }
-        ensures short { length self.new ≤ length self.old + length label.now + 10 }
+        ensures { Puts self.old (label.now ++ numeral n) self.new }
     {
         let mut digits = [0u8; 20];
         let count = io::decimal(u64::from(n), &mut digits);
@@ -72,9 +55,7 @@ impl Page {
     }
 
     fn put_task(&mut self, i: u8, task: Task)
-        requires { length self.old ≤ 4000 }
-        ensures text { self.new ≡ self.old ++ task_line i task }
-        ensures short { length self.new ≤ length self.old + 72 }
+        ensures { Puts self.old (task_line i task) self.new }
     {
         self.put_number(b"task task", u32::from(i));
         self.put_number(b" period ", task.period);
@@ -84,9 +65,7 @@ impl Page {
     }
 
     fn put_tasks(&mut self, s: Sheet)
-        requires { self.old ≡ [] }
-        ensures text { self.new ≡ task_lines s.tasks (min s.count 16) }
-        ensures short { length self.new ≤ 1152 }
+        ensures { Puts self.old (task_lines s.tasks (min s.count 16)) self.new }
     {
         for i in 0..s.count.min(16) {
             self.put_task(i, s.tasks[usize::from(i)]);
@@ -95,9 +74,7 @@ impl Page {
 
     // "chain limit 1000": an old sheet has no limits.
     fn put_limit(&mut self, edition: u8, limit: u32)
-        requires { length self.old ≤ 4000 }
-        ensures text { self.new ≡ self.old ++ limit_words edition limit }
-        ensures short { length self.new ≤ length self.old + 17 }
+        ensures { Puts self.old (limit_words edition limit) self.new }
     {
         if edition != 1 {
             self.put_number(b" limit ", limit);
@@ -105,19 +82,15 @@ impl Page {
     }
 
     fn put_entries(&mut self, chain: Chain)
-        requires { length self.old ≤ 3800 }
-        ensures text { self.new ≡ self.old ++ entry_words chain.entries (min chain.length 16) }
-        ensures short { length self.new ≤ length self.old + 240 }
+        ensures { Puts self.old (entry_words chain.entries (min chain.length 16)) self.new }
     {
-        for i in 0..chain.length.min(16) {
-            self.put_number(b" task", u32::from(chain.entries[usize::from(i)]));
+        for &entry in chain.tasks() {
+            self.put_number(b" task", u32::from(entry));
         }
     }
 
     fn put_chain(&mut self, edition: u8, chain: Chain)
-        requires { length self.old ≤ 3700 }
-        ensures text { self.new ≡ self.old ++ chain_line edition chain }
-        ensures short { length self.new ≤ length self.old + 263 }
+        ensures { Puts self.old (chain_line edition chain) self.new }
     {
         self.put(b"chain");
         self.put_limit(edition, chain.limit);
@@ -126,19 +99,19 @@ impl Page {
     }
 
     fn put_chains(&mut self, s: Sheet)
-        requires { length self.old ≤ 1152 }
-        ensures { self.new ≡ self.old ++ chain_lines s.edition s.chains (chain_count s) }
+        ensures { Puts self.old (chain_lines s.edition s.chains (chain_count s)) self.new }
     {
-        for c in 0..sheet::chain_count(s).min(8) {
-            self.put_chain(s.edition, s.chains[usize::from(c)]);
+        let count = usize::from(sheet::chain_count(s).min(8));
+        for &chain in &s.chains[..count] {
+            self.put_chain(s.edition, chain);
         }
     }
 }
 
 fn page_of(s: Sheet) -> Page
-    ensures { result ≡ text_of s }
+    ensures { take 4096 result ≡ text_of s }
 {
-    let mut page = Page::new();
+    let mut page = Page(ArrayVec::new());
     page.put_tasks(s);
     page.put_chains(s);
     page

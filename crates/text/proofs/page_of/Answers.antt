@@ -1,10 +1,11 @@
--- The chains stand where the tasks end.
-use Rattle.std.proofs.Common.{ap, ◌∙◌, ◌++◌}
-use Rattle.text.specs.Shown.{chain_lines, chain_count, text_of}
+-- The chains stand where the tasks end, and there is room for all.
+use Rattle.std.proofs.Common.{arith}
+use Rattle.text.specs.Shown.{text_of}
+use Rattle.text.specs.ShownLaws.{puts_more, puts_whole}
+use Rattle.text.specs.SizeLaws.{text_short}
 use Rattle.text.proofs.page_of.Goals as goal
 
 pub returns : goal.returns
 unfolding text_of
 returns c =
-    let s = c.args.s in
-    c.put_chains.ensures ∙ ap (λ x. x ++ chain_lines s.edition s.chains (chain_count s)) c.put_tasks.ensures.text
+    puts_whole c.new.ensures (omega (arith, text_short c.args.s)) (puts_more c.put_tasks.ensures c.put_chains.ensures)

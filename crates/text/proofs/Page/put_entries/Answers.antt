@@ -1,24 +1,27 @@
--- After i turns the first i entries stand on the page.
-use Rattle.std.proofs.Common.{ℕ, List, ◌∷◌, ◌++◌, get_or, sym, ap, ap₂, ◌∙◌, append-nil, append_assoc, arith}
+-- Each turn puts one entry more.
+use Rattle.std.proofs.Common.{◌≡◌, ◌<◌, ◌++◌, ◌∷◌, get_or, ap, ◌∙◌, arith, rules, length, length-take, get_or-take, min}
 use Rattle.text.specs.Shown.{numeral, joined, task_word, entry_word, entry_words}
-use Rattle.text.specs.ShownLaws.{joined_snoc}
+use Rattle.text.specs.ShownLaws.{puts_none, puts_is, puts_on}
 use Rattle.text.proofs.Page.put_entries.Goals as goal
 
-pub loop-i-init : goal.loop-i-init
+pub loop-entry-init : goal.loop-entry-init
 unfolding joined
-loop-i-init c =
-    (omega arith, sym (append-nil c.args.self.now), omega arith)
+loop-entry-init c =
+    puts_none
 
-pub loop-i-preserved : goal.loop-i-preserved
+pub loop-entry-preserved : goal.loop-entry-preserved
 unfolding entry_word
-loop-i-preserved c =
-    let l = c.loop-i in
-    let s : List ℕ = c.args.self.now in
-    let entries = c.args.chain.entries in
-    let f : ℕ → List ℕ = λ j. entry_word (get_or entries j 0) in (
-      l.invariant.0,
-      c.put_number.ensures.text
-          ∙ ap₂ (λ x k. x ++ ((32 ∷ task_word) ++ numeral k)) l.invariant.1 (c.from-in-loop-i.ensures ∙ ap (λ k. get_or entries k 0) c.from.ensures)
-          ∙ append_assoc s (entry_words entries l.i) (f l.i) ∙ ap (λ x. s ++ x) (joined_snoc f l.i),
-      omega (arith, l.invariant.2, c.put_number.ensures.short),
-    )
+loop-entry-preserved c =
+    let l = c.loop-entry in
+    let chain = c.args.chain in
+    let first = c.tasks-entry-items.ensures in
+    let at : l.entry-index < chain.length = omega (arith, c.loop-entry-test.true, ap length first, length-take chain.length chain.entries) in
+    puts_on (λ j. entry_word (get_or chain.entries j 0)) l.entry-index l.invariant
+    (puts_is (ap (λ k. (32 ∷ task_word) ++ numeral k) (c.from.ensures ∙ ap (λ x. get_or x l.entry-index 0) first ∙ get_or-take chain.length chain.entries l.entry-index 0 at)) c.put_number.ensures)
+
+pub returns : goal.returns
+returns c =
+    let l = c.loop-entry in
+    let chain = c.args.chain in
+    let whole : length chain.entries ≡ 16 = search rules in
+    puts_is (ap (λ n. entry_words chain.entries n) {x = l.entry-index} {y = min chain.length 16} (omega (arith, whole, c.loop-entry-test.false, l.auto.entry-index-end, ap length c.tasks-entry-items.ensures, length-take chain.length chain.entries))) l.invariant

@@ -15,7 +15,7 @@ use Rattle.theory.specs.Model.Schedule.{none, period, budget, rank, Slot, idle, 
 use Rattle.theory.specs.Model.Responses.{hyperperiod, all_jobs, idle_ticks}
 use Rattle.answers.specs.declared.Refusal.{Refusal}
 use Rattle.answers.specs.Answers.{Answer, given, refused, fine, after, also, refusal}
-use Rattle.answers.specs.AnswerLaws.{refused_given, after_given}
+use Rattle.answers.specs.AnswerLaws.{after_given}
 use Rattle.sheet.specs.declared.Sheet.{Sheet}
 use Rattle.sheet.specs.Sound.{Sound}
 use Rattle.sheet.specs.SoundLaws.{judged_sound}
@@ -26,10 +26,9 @@ use Rattle.schedule.specs.declared.answer.Size.{Size}
 use Rattle.schedule.specs.Calls.{most_jobs, sizes_of, responses_of}
 use Rattle.schedule.specs.CallLaws.{sizes_given}
 use Rattle.schedule.specs.Results.{responses_given, given_responses}
-use Rattle.recurrence.specs.declared.answer.Bounds.{Bounds}
 use Rattle.recurrence.specs.declared.answer.QuickBound.{QuickBound}
-use Rattle.recurrence.specs.Calls.{passing_greatest, quick_of, quick_bound_of, responses_in}
-use Rattle.recurrence.specs.CallLaws.{quick_fits, quick_passing_task, given_bound}
+use Rattle.recurrence.specs.Calls.{passing_greatest, quick_of, quick_bound_of}
+use Rattle.recurrence.specs.CallLaws.{quick_fits, quick_passing_task, given_bound, bound_refused as quick_refused}
 use Rattle.recurrence.specs.Results.{given_accepted}
 use Rattle.chain.specs.QuickResults.{quick_late_table}
 use Rattle.lower.specs.declared.answer.Difference.{Difference}
@@ -135,14 +134,7 @@ module _ (s : Sheet) where
   sizes_refused r e = sym (ap (λ j. also j (given s)) (accept_sizes r (sym e)))
 
   pub bound_refused : {size : Size} (r : Refusal) → given size ≡ sizes_of s → refusal r ≡ quick_bound_of s 1 → refusal r ≡ also (acceptance s) (given s)
-  bound_refused r sized e = sym (ap (λ j. also j (given s)) (accept_late (sym sized) ∙ ap (λ a. after a (λ bounds. fine)) (of (quick_of s 1) e)))
-    where
-      with_responses : Bounds → Answer QuickBound
-      with_responses b = given (record { bounds = b; responses = responses_in s })
-
-      of : (a : Answer Bounds) → refusal r ≡ after a with_responses → a ≡ refusal r
-      of (given b) e = refused_given e
-      of (refused n vs) e = cc
+  bound_refused r sized e = sym (ap (λ j. also j (given s)) (accept_late (sym sized) ∙ ap (λ a. after a (λ bounds. fine)) (quick_refused s 1 r e)))
 
 pub accepted_sound : (s : Sheet) → acceptance s ≡ fine → Sound s
 accepted_sound s e = judged_sound s (responses_given s most_jobs (after_given (responses_of s most_jobs) _ e).1).judged_fine

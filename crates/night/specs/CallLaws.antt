@@ -3,8 +3,8 @@ use Rattle.std.specs.Prelude.{◌≡◌, refl, ◌≢◌, List, [], ℕ, ◌≤�
 use Rattle.std.proofs.Common.{sym, ◌∙◌, subst, lt-ltb, le-ltb, ne_eqb}
 use Rattle.std.proofs.Math.Path.{ap}
 use Rattle.answers.specs.declared.Refusal.{Refusal}
-use Rattle.answers.specs.Answers.{Answer, given, refused, Judgement, fine, when, after, also, number_in, values_in, refusal}
-use Rattle.answers.specs.AnswerLaws.{refused_given, after_given, also_given}
+use Rattle.answers.specs.Answers.{Answer, given, refused, Judgement, fine, when, after, also, number_in, refusal}
+use Rattle.answers.specs.AnswerLaws.{after_given, also_given}
 use Rattle.sheet.specs.declared.Sheet.{Sheet}
 use Rattle.sheet.specs.Tasks.{tasks_of}
 use Rattle.schedule.specs.declared.answer.Size.{Size}
@@ -76,14 +76,6 @@ module _ (s : Sheet) (bytes old : List ℕ) where
 -- ---- the figures, with each task's greatest response beside them
 
 module _ (s : Sheet) (number room : ℕ) where
-  pub figures_no : (r : Refusal) → task_figures_of s number room ≡ refusal r → figures_of s number room ≡ refusal r
-  unfolding task_figures_of
-  figures_no r e = go (figures_of s number room) e
-    where
-      go : (a : Answer Summary) → after a (λ x. given (with_tasks s x)) ≡ refusal r → a ≡ refusal r
-      go (given x) e = refused_given (sym e)
-      go (refused n values) e = let p : n ≡ number_in r = cc in let q : values ≡ values_in r = cc in cc
-
   pub figures_table : (old : List ℕ) → table_after (task_figures_of s number room) (tasks_of s) old ≡ table_after (figures_of s number room) (tasks_of s) old
   unfolding task_figures_of
   figures_table old = go (figures_of s number room)

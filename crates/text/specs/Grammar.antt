@@ -22,7 +22,7 @@ use Rattle.text.specs.declared.Draft.{Draft}
 
 -- ---- what is wrong, by its number
 
--- "What is wanted next, and so the number of the mistake where it is not there."
+-- What is wanted next, and so the number of the mistake where it is not there.
 abbrev pub want_number : Want → ℕ
 want_number Opening = 1
 want_number WantTask = 2

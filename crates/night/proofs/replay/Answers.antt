@@ -8,11 +8,11 @@ use Rattle.schedule.specs.Calls.{sizes_of}
 use Rattle.schedule.specs.CallLaws.{sizes_given}
 use Rattle.schedule.specs.NumberLaws.{sizes_never_15}
 use Rattle.chain.specs.Calls.{figures_of}
-use Rattle.chain.specs.CallLaws.{summary_in, figures_given}
+use Rattle.chain.specs.CallLaws.{summary_in, figures_refused, figures_given}
 use Rattle.clocklog.specs.Format.{log_judged}
 use Rattle.clocklog.specs.NumberLaws.{log_never_15}
 use Rattle.night.specs.Calls.{chain_one}
-use Rattle.night.specs.CallLaws.{sizes_first, room_next, log_next, figures_last, replay_refused, replay_late, replay_given, figures_no, figures_table}
+use Rattle.night.specs.CallLaws.{sizes_first, room_next, log_next, figures_last, replay_refused, replay_late, replay_given, figures_table}
 use Rattle.night.proofs.replay.Goals as goal
 
 pub returns-in_err-size : goal.returns-in_err-size
@@ -49,7 +49,7 @@ returns-in_err-figures c =
     let fine_log : log_judged a.log.now a.s.count ≡ fine = sym c.judge.ensures ∙ ap told c.in_ok-judge.was in
     rw (p.1, p.2)
     (replay_late a.s a.log.now a.table.now (figures_last a.s a.log.now room c.in_ok-size.size sized c.if-table-size.false fine_log)
-    (c.figures.ensures.1 ∙ figures_table a.s chain_one room a.table.now) r (figures_no a.s chain_one room r (sym c.figures.ensures.0 ∙ ap told c.in_err-figures.was)))
+    (c.figures.ensures.1 ∙ figures_table a.s chain_one room a.table.now) r (figures_refused a.s chain_one room r (sym c.figures.ensures.0 ∙ ap told c.in_err-figures.was)))
 
 pub invariant_of-judged : goal.invariant_of-judged
 invariant_of-judged c =

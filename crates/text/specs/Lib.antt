@@ -6,6 +6,7 @@ pub mod Run
 pub mod Calls
 pub mod Promises
 -- What the functions do for each other, and the laws.
+pub mod Conditions
 pub mod NumeralLaws
 pub mod ShownLaws
 pub mod WordLaws

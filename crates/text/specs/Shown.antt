@@ -1,5 +1,5 @@
 -- The text of a sheet: a line for each task, and one for each chain.
-use Rattle.std.specs.Prelude.{◌≡◌, cond, List, [], ◌∷◌, ◌++◌, ℕ, zero, suc, ◌/◌, min, ltb, eqb, get_or, take}
+use Rattle.std.specs.Prelude.{cond, List, [], ◌∷◌, ◌++◌, ℕ, zero, suc, ◌/◌, min, ltb, eqb, get_or}
 use Rattle.io.specs.Digits.{last_digits}
 use Rattle.theory.specs.declared.Task.{Task}
 use Rattle.theory.specs.Model.Schedule.{none}
@@ -79,7 +79,3 @@ chain_count s = cond (eqb s.edition 1) 1 (min s.suite 8)
 
 unfoldable pub text_of : Sheet → List ℕ
 text_of s = task_lines s.tasks (min s.count 16) ++ chain_lines s.edition s.chains (chain_count s)
-
--- The text is put at the end of a page, which holds its first 4,096 bytes.
-pub record Puts (old text new : List ℕ) : Type 0 where
-  pub front : take 4096 new ≡ take 4096 (old ++ text)

@@ -5,7 +5,8 @@ use Rattle.std.proofs.lemmas.List.{take_min}
 use Rattle.std.proofs.Math.Seq.{take-append-add}
 use Rattle.sheet.specs.declared.Sheet.{Sheet}
 use Rattle.sheet.specs.Tasks.{chain_count as sheet_count}
-use Rattle.text.specs.Shown.{joined, chain_count, Puts}
+use Rattle.text.specs.Shown.{joined, chain_count}
+use Rattle.text.specs.Conditions.{Puts}
 
 -- one more at the end
 joined_suc : (f : ℕ → List ℕ) (i k : ℕ) → joined f i (suc k) ≡ joined f i k ++ f (i + k)

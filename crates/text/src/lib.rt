@@ -3,11 +3,12 @@
 // (specs/Run.antt). That what is shown says the sheet is proved of them (specs/RoundTrip.antt).
 #![tactic(auto)]
 
-ghost use Rattle.std.specs.Prelude.{◌≡◌, List, [], map, ◌++◌, ℕ, ◌+◌, ◌≤◌, min, length, set, take};
-ghost use Rattle.text.specs.Shown.{numeral, task_line, task_lines, entry_words, limit_words, chain_line, chain_lines, chain_count, text_of, Puts};
+ghost use Rattle.std.specs.Prelude.{◌≡◌, List, ◌++◌, ℕ, ◌+◌, ◌≤◌, min, length, set, take};
+ghost use Rattle.text.specs.Shown.{numeral, task_line, task_lines, entry_words, limit_words, chain_line, chain_lines, chain_count, text_of};
 ghost use Rattle.text.specs.Words.{ends, word, digit, name_byte, every, number, keyword, index, says};
 ghost use Rattle.text.specs.Grammar.{missing, fresh, wanting, with_edition, task_in, with_task, task_more, chain_in, with_chain, chain_more, opened, next_task, next_chain, at_edition, at_period, at_budget, ranked, at_rank, repeated, longer, at_entry, at_limit, at_limit_number, step, line_end, text_end, typed};
 ghost use Rattle.text.specs.Run.{place_after, begins, turn, named, run, nameless, faulty, placed, located};
+ghost use Rattle.text.specs.Conditions.{Puts, names_of};
 ghost use Rattle.text.specs.Promises.{ShowPromise, ParsePromise, NumberPromise};
 ghost use Rattle.text.specs.declared.Place.TheVariants.{Between};
 
@@ -191,7 +192,7 @@ pub struct Fault {
 }
 
 impl Wrong {
-    // A mistake's number, or a refusal's number and 100.
+    // A mistake's number, or a refusal's number and 100. Not by discriminants: what is wanted gives its own number.
     pub fn number(self) -> u8
         ensures { NumberPromise self result }
     {
@@ -337,7 +338,7 @@ enum Edition {
     Two,
 }
 
-// Past the end nothing is set.
+// Past the end nothing is set. Not by `get_mut`, after which the check knows a slice's length and no element.
 fn set_at<T: Copy>(list: &mut [T], k: u8, x: T)
     ensures { list.new ≡ set list.old k x }
 {
@@ -432,7 +433,7 @@ impl Draft {
         self
     }
 
-    // A chain with no limit is under 1,000, the limit that an old sheet's chain has.
+    // A chain with no limit is under 1,000, the limit that an old sheet's chain has. Over `..Chain::default()` the proof didn't close.
     #[tactic(auto, unfolding(bits::specs::Bits::list_of))]
     fn begin_chain(self) -> Self
         ensures { result ≡ opened self }
@@ -466,93 +467,6 @@ impl Draft {
 
 // ---- what a word does
 
-// `task`, after the first one.
-fn begin_task(d: Draft) -> Result<Draft, Wrong>
-    ensures { result ≡ next_task d }
-{
-    if d.count < 16 {
-        Ok(d.wants(Want::Name))
-    } else {
-        Err(Wrong::Tasks)
-    }
-}
-
-// `chain`, after the first one: "more than one chain" is edition 2.
-fn begin_next(d: Draft) -> Result<Draft, Wrong>
-    ensures { result ≡ next_chain d }
-{
-    if let Some(Edition::One) = d.edition {
-        return Err(Wrong::ChainInEditionOne);
-    }
-    if d.suite < 8 {
-        Ok(d.with_edition(Edition::Two).begin_chain())
-    } else {
-        Err(Wrong::Chains)
-    }
-}
-
-fn read_edition(n: u32, d: Draft) -> Result<Draft, Wrong>
-    ensures { result ≡ at_edition n d }
-{
-    let edition = match n {
-        1 => Edition::One,
-        2 => Edition::Two,
-        _ => return Err(Wrong::Edition),
-    };
-    Ok(d.with_edition(edition).wants(Want::EditionEnd))
-}
-
-fn read_period(period: u32, d: Draft) -> Result<Draft, Wrong>
-    ensures { result ≡ at_period period d }
-{
-    if !(1..=100000).contains(&period) {
-        return Err(Wrong::Period);
-    }
-    let task = Task {
-        period,
-        ..Task::default()
-    };
-    Ok(d.with_task(task).wants(Want::Budget))
-}
-
-fn read_budget(budget: u32, d: Draft) -> Result<Draft, Wrong>
-    ensures { result ≡ at_budget budget d }
-{
-    let task = d.task();
-    if !(1..=task.period).contains(&budget) {
-        return Err(Wrong::Budget);
-    }
-    let task = Task {
-        budget,
-        rank: 0,
-        ..task
-    };
-    Ok(d.with_task(task).wants(Want::Rank))
-}
-
-// Whether an earlier task has the rank.
-fn has_rank(d: Draft, rank: u8) -> bool
-    ensures { result ≡ ranked d rank }
-{
-    d.tasks
-        .iter()
-        .take(usize::from(d.count))
-        .any(|task| task.rank == rank)
-}
-
-fn read_rank(n: u32, d: Draft) -> Result<Draft, Wrong>
-    ensures { result ≡ at_rank n d }
-{
-    let Ok(rank) = u8::try_from(n) else {
-        return Err(Wrong::RankTooGreat);
-    };
-    if has_rank(d, rank) {
-        return Err(Wrong::Rank);
-    }
-    let task = Task { rank, ..d.task() };
-    Ok(d.with_task(task).count_task().wants(Want::TaskEnd))
-}
-
 // Whether the chain has the task already.
 fn has_entry(chain: Chain, entry: u8) -> bool
     ensures { result ≡ repeated chain.entries chain.length entry }
@@ -573,96 +487,219 @@ fn with_entry(mut chain: Chain, entry: u8) -> Chain
     chain
 }
 
-// A task of the chain, by its name or its number.
-fn read_entry(n: u32, d: Draft) -> Result<Draft, Wrong>
-    ensures { result ≡ at_entry n d }
-{
-    let chain = d.chain();
-    if d.count <= chain.length {
-        return Err(Wrong::Length);
+impl Draft {
+    // `task`, after the first one.
+    fn begin_task(self) -> Result<Self, Wrong>
+        ensures { result ≡ next_task self }
+    {
+        if self.count < 16 {
+            Ok(self.wants(Want::Name))
+        } else {
+            Err(Wrong::Tasks)
+        }
     }
-    if u32::from(d.count) <= n {
-        return Err(Wrong::Entry);
-    }
-    let entry = n as u8;
-    if has_entry(chain, entry) {
-        return Err(Wrong::Repeat);
-    }
-    Ok(d.with_chain(with_entry(chain, entry)).wants(Want::Entries))
-}
 
-// `limit`: "With a limit .. the sheet is of edition 2".
-fn read_limit(d: Draft) -> Result<Draft, Wrong>
-    ensures { result ≡ at_limit d }
-{
-    if let Some(Edition::One) = d.edition {
-        return Err(Wrong::LimitInEditionOne);
+    // `chain`, after the first one: "more than one chain" is edition 2.
+    fn begin_next(self) -> Result<Self, Wrong>
+        ensures { result ≡ next_chain self }
+    {
+        if let Some(Edition::One) = self.edition {
+            return Err(Wrong::ChainInEditionOne);
+        }
+        if self.suite < 8 {
+            Ok(self.with_edition(Edition::Two).begin_chain())
+        } else {
+            Err(Wrong::Chains)
+        }
     }
-    Ok(d.with_edition(Edition::Two).wants(Want::LimitNumber))
-}
 
-fn read_limit_number(limit: u32, d: Draft) -> Result<Draft, Wrong>
-    ensures { result ≡ at_limit_number limit d }
-{
-    if 4000000 < limit {
-        return Err(Wrong::Limit);
+    fn read_edition(self, n: u32) -> Result<Self, Wrong>
+        ensures { result ≡ at_edition n self }
+    {
+        let edition = match n {
+            1 => Edition::One,
+            2 => Edition::Two,
+            _ => return Err(Wrong::Edition),
+        };
+        Ok(self.with_edition(edition).wants(Want::EditionEnd))
     }
-    let chain = Chain { limit, ..d.chain() };
-    Ok(d.with_chain(chain).wants(Want::Entry))
-}
 
-#[tactic(auto, unfolding(crate::specs::Grammar::step))]
-fn read_word(w: Word, d: Draft) -> Result<Draft, Wrong>
-    ensures { result ≡ step w d }
-{
-    match (d.want, w) {
-        (Want::Opening, Word::Key(Key::Edition)) => Ok(d.wants(Want::Edition)),
-        (Want::Opening, Word::Key(Key::Task)) => Ok(d.wants(Want::Name)),
-        (Want::Task, Word::Key(Key::Task)) => Ok(d.wants(Want::Name)),
-        (Want::More, Word::Key(Key::Task)) => begin_task(d),
-        (Want::More, Word::Key(Key::Chain)) => Ok(d.begin_chain()),
-        (Want::Chain, Word::Key(Key::Chain)) => begin_next(d),
-        (Want::Edition, Word::Number(n)) => read_edition(n, d),
-        (Want::Name, Word::New) => Ok(d.wants(Want::Period)),
-        (Want::Name, Word::Known(_)) => Err(Wrong::NameTwice),
-        (Want::Period, Word::Key(Key::Period)) => Ok(d.wants(Want::PeriodNumber)),
-        (Want::PeriodNumber, Word::Number(n)) => read_period(n, d),
-        (Want::Budget, Word::Key(Key::Budget)) => Ok(d.wants(Want::BudgetNumber)),
-        (Want::BudgetNumber, Word::Number(n)) => read_budget(n, d),
-        (Want::Rank, Word::Key(Key::Rank)) => Ok(d.wants(Want::RankNumber)),
-        (Want::RankNumber, Word::Number(n)) => read_rank(n, d),
-        (Want::Limit, Word::Key(Key::Limit)) => read_limit(d),
-        (Want::LimitNumber, Word::Number(n)) => read_limit_number(n, d),
-        (Want::Limit | Want::Entry | Want::Entries, Word::Number(n)) => read_entry(n, d),
-        (Want::Limit | Want::Entry | Want::Entries, Word::Known(i)) => read_entry(u32::from(i), d),
-        (Want::Limit | Want::Entry | Want::Entries, Word::New) => Err(Wrong::NameUnknown),
-        _ => d.missing(),
+    fn read_period(self, period: u32) -> Result<Self, Wrong>
+        ensures { result ≡ at_period period self }
+    {
+        if !(1..=100000).contains(&period) {
+            return Err(Wrong::Period);
+        }
+        let task = Task {
+            period,
+            ..Task::default()
+        };
+        Ok(self.with_task(task).wants(Want::Budget))
     }
-}
 
-// Before a line its end does not matter; after one it ends it.
-#[tactic(auto, unfolding(crate::specs::Grammar::line_end))]
-fn end_line(d: Draft) -> Result<Draft, Wrong>
-    ensures { result ≡ line_end d }
-{
-    match d.want {
-        Want::Opening | Want::Task | Want::More | Want::Chain => Ok(d),
-        Want::EditionEnd => Ok(d.wants(Want::Task)),
-        Want::TaskEnd => Ok(d.wants(Want::More)),
-        Want::Entries => Ok(d.count_chain().wants(Want::Chain)),
-        _ => d.missing(),
+    fn read_budget(self, budget: u32) -> Result<Self, Wrong>
+        ensures { result ≡ at_budget budget self }
+    {
+        let task = self.task();
+        if !(1..=task.period).contains(&budget) {
+            return Err(Wrong::Budget);
+        }
+        let task = Task {
+            budget,
+            rank: 0,
+            ..task
+        };
+        Ok(self.with_task(task).wants(Want::Rank))
     }
-}
 
-// The end of the text ends its last line, and there is a chain.
-#[tactic(auto, unfolding(crate::specs::Grammar::text_end))]
-fn end_text(d: Draft) -> Result<Draft, Wrong>
-    ensures { result ≡ text_end d }
-{
-    let d = end_line(d)?;
-    match d.want {
-        Want::Chain => Ok(d),
-        _ => d.missing(),
+    // Whether an earlier task has the rank.
+    fn has_rank(self, rank: u8) -> bool
+        ensures { result ≡ ranked self rank }
+    {
+        self.tasks
+            .iter()
+            .take(usize::from(self.count))
+            .any(|task| task.rank == rank)
+    }
+
+    fn read_rank(self, n: u32) -> Result<Self, Wrong>
+        ensures { result ≡ at_rank n self }
+    {
+        let Ok(rank) = u8::try_from(n) else {
+            return Err(Wrong::RankTooGreat);
+        };
+        if self.has_rank(rank) {
+            return Err(Wrong::Rank);
+        }
+        let task = Task {
+            rank,
+            ..self.task()
+        };
+        Ok(self.with_task(task).count_task().wants(Want::TaskEnd))
+    }
+
+    // A task of the chain, by its name or its number.
+    fn read_entry(self, n: u32) -> Result<Self, Wrong>
+        ensures { result ≡ at_entry n self }
+    {
+        let chain = self.chain();
+        if self.count <= chain.length {
+            return Err(Wrong::Length);
+        }
+        if u32::from(self.count) <= n {
+            return Err(Wrong::Entry);
+        }
+        let entry = n as u8;
+        if has_entry(chain, entry) {
+            return Err(Wrong::Repeat);
+        }
+        Ok(
+            self.with_chain(with_entry(chain, entry))
+                .wants(Want::Entries),
+        )
+    }
+
+    // `limit`: "With a limit .. the sheet is of edition 2".
+    fn read_limit(self) -> Result<Self, Wrong>
+        ensures { result ≡ at_limit self }
+    {
+        if let Some(Edition::One) = self.edition {
+            return Err(Wrong::LimitInEditionOne);
+        }
+        Ok(self.with_edition(Edition::Two).wants(Want::LimitNumber))
+    }
+
+    fn read_limit_number(self, limit: u32) -> Result<Self, Wrong>
+        ensures { result ≡ at_limit_number limit self }
+    {
+        if 4000000 < limit {
+            return Err(Wrong::Limit);
+        }
+        let chain = Chain {
+            limit,
+            ..self.chain()
+        };
+        Ok(self.with_chain(chain).wants(Want::Entry))
+    }
+
+    #[tactic(auto, unfolding(crate::specs::Grammar::step))]
+    fn read_word(self, w: Word) -> Result<Self, Wrong>
+        ensures { result ≡ step w self }
+    {
+        match (self.want, w) {
+            (Want::Opening, Word::Key(Key::Edition)) => Ok(self.wants(Want::Edition)),
+            (Want::Opening, Word::Key(Key::Task)) => Ok(self.wants(Want::Name)),
+            (Want::Task, Word::Key(Key::Task)) => Ok(self.wants(Want::Name)),
+            (Want::More, Word::Key(Key::Task)) => self.begin_task(),
+            (Want::More, Word::Key(Key::Chain)) => Ok(self.begin_chain()),
+            (Want::Chain, Word::Key(Key::Chain)) => self.begin_next(),
+            (Want::Edition, Word::Number(n)) => self.read_edition(n),
+            (Want::Name, Word::New) => Ok(self.wants(Want::Period)),
+            (Want::Name, Word::Known(_)) => Err(Wrong::NameTwice),
+            (Want::Period, Word::Key(Key::Period)) => Ok(self.wants(Want::PeriodNumber)),
+            (Want::PeriodNumber, Word::Number(n)) => self.read_period(n),
+            (Want::Budget, Word::Key(Key::Budget)) => Ok(self.wants(Want::BudgetNumber)),
+            (Want::BudgetNumber, Word::Number(n)) => self.read_budget(n),
+            (Want::Rank, Word::Key(Key::Rank)) => Ok(self.wants(Want::RankNumber)),
+            (Want::RankNumber, Word::Number(n)) => self.read_rank(n),
+            (Want::Limit, Word::Key(Key::Limit)) => self.read_limit(),
+            (Want::LimitNumber, Word::Number(n)) => self.read_limit_number(n),
+            (Want::Limit | Want::Entry | Want::Entries, Word::Number(n)) => self.read_entry(n),
+            (Want::Limit | Want::Entry | Want::Entries, Word::Known(i)) => self.read_entry(
+                u32::from(i),
+            ),
+            (Want::Limit | Want::Entry | Want::Entries, Word::New) => Err(Wrong::NameUnknown),
+            _ => self.missing(),
+        }
+    }
+
+    // Before a line its end does not matter; after one it ends it.
+    #[tactic(auto, unfolding(crate::specs::Grammar::line_end))]
+    fn end_line(self) -> Result<Self, Wrong>
+        ensures { result ≡ line_end self }
+    {
+        match self.want {
+            Want::Opening | Want::Task | Want::More | Want::Chain => Ok(self),
+            Want::EditionEnd => Ok(self.wants(Want::Task)),
+            Want::TaskEnd => Ok(self.wants(Want::More)),
+            Want::Entries => Ok(self.count_chain().wants(Want::Chain)),
+            _ => self.missing(),
+        }
+    }
+
+    // The end of the text ends its last line, and there is a chain.
+    #[tactic(auto, unfolding(crate::specs::Grammar::text_end))]
+    fn end_text(self) -> Result<Self, Wrong>
+        ensures { result ≡ text_end self }
+    {
+        let d = self.end_line()?;
+        match d.want {
+            Want::Chain => Ok(d),
+            _ => d.missing(),
+        }
+    }
+
+    // One chain with no limit, and edition 2 not said: an old sheet.
+    #[tactic(auto, unfolding(crate::specs::Grammar::typed))]
+    fn sheet(self) -> Sheet
+        ensures { result ≡ typed self }
+    {
+        let tasks = self.tasks;
+        let mut chains = self.chains;
+        let (edition, suite) = match self.edition {
+            Some(Edition::Two) => (2, self.suite),
+            _ => {
+                chains[0].limit = 0;
+                (1, 0)
+            }
+        };
+        Sheet {
+            tasks,
+            chains,
+            edition,
+            count: self.count,
+            suite,
+        }
     }
 }
 
@@ -713,7 +750,7 @@ struct Reading<'a> {
 
 impl<'a> Reading<'a> {
     fn new() -> Self
-        ensures names { map (λ n. n.now) result.names ≡ nameless }
+        ensures names { names_of result.names ≡ nameless }
         ensures place { result.place ≡ Between }
         ensures draft { result.draft ≡ fresh }
     {
@@ -725,10 +762,10 @@ impl<'a> Reading<'a> {
         }
     }
 
-    // The last task that has the name.
+    // The last task that has the name. By `rposition` the proof didn't close: std has no lemma from it to a list.
     #[tactic(auto, unfolding(crate::specs::Words::index))]
     fn task_named(&self, word: &[u8]) -> Option<u8>
-        ensures { result ≡ index (map (λ n. n.now) self.now.names) (min self.now.draft.count 16) word.now }
+        ensures { result ≡ index (names_of self.now.names) (min self.now.draft.count 16) word.now }
     {
         for i in (0..self.draft.count.min(16)).rev() {
             if self.names[usize::from(i)] == word {
@@ -740,7 +777,7 @@ impl<'a> Reading<'a> {
 
     #[tactic(auto, unfolding(crate::specs::Words::says))]
     fn says(&self, word: &[u8]) -> Word
-        ensures { result ≡ says (map (λ n. n.now) self.now.names) self.now.draft.count word.now }
+        ensures { result ≡ says (names_of self.now.names) self.now.draft.count word.now }
     {
         if let Some(key) = keyword_of(word) {
             return Word::Key(key);
@@ -760,14 +797,14 @@ impl<'a> Reading<'a> {
     // What the byte b at the front of what is left does.
     #[tactic(auto, unfolding(crate::specs::Run::turn))]
     fn read(&self, b: u8, rest: &[u8]) -> Result<Draft, Wrong>
-        ensures { result ≡ turn (map (λ n. n.now) self.now.names) self.now.place self.now.draft b (word rest.now) }
+        ensures { result ≡ turn (names_of self.now.names) self.now.place self.now.draft b (word rest.now) }
     {
         let d = self.draft;
         if b == b'\n' {
-            return end_line(d);
+            return d.end_line();
         }
         if self.place.begins(b) {
-            return read_word(self.says(first_word(rest)), d);
+            return d.read_word(self.says(first_word(rest)));
         }
         Ok(d)
     }
@@ -775,21 +812,21 @@ impl<'a> Reading<'a> {
     // Where a name is wanted, the word that begins here is the name of the task that is being typed.
     #[tactic(auto, unfolding(crate::specs::Run::named))]
     fn keep_name(&mut self, b: u8, rest: &'a [u8])
-        ensures names { map (λ n. n.now) self.new.names
-            ≡ named (map (λ n. n.now) self.old.names) self.old.place self.old.draft b (word rest.now) }
+        ensures names { names_of self.new.names
+            ≡ named (names_of self.old.names) self.old.place self.old.draft b (word rest.now) }
         ensures place { self.new.place ≡ self.old.place }
         ensures draft { self.new.draft ≡ self.old.draft }
     {
         let d = self.draft;
-        if self.place.begins(b) && matches!(d.want, Want::Name) {
+        if self.place.begins(b) && d.want == Want::Name {
             set_at(&mut self.names, d.count, first_word(rest));
         }
     }
 
     // On to the next byte.
     fn go_on(&mut self, b: u8, rest: &'a [u8], draft: Draft)
-        ensures names { map (λ n. n.now) self.new.names
-            ≡ named (map (λ n. n.now) self.old.names) self.old.place self.old.draft b (word rest.now) }
+        ensures names { names_of self.new.names
+            ≡ named (names_of self.old.names) self.old.place self.old.draft b (word rest.now) }
         ensures place { self.new.place ≡ place_after self.old.place b }
         ensures draft { self.new.draft ≡ draft }
     {
@@ -840,42 +877,18 @@ fn scan(text: &[u8]) -> Result<Draft, Fault>
         let draft = placed_after(&text[..at], reading.read(*b, rest))?;
         reading.go_on(*b, rest, draft);
     }
-    placed_after(text, end_text(reading.draft))
+    placed_after(text, reading.draft.end_text())
 }
 
-// One chain with no limit, and edition 2 not said: an old sheet.
-#[tactic(auto, unfolding(crate::specs::Grammar::typed))]
-fn sheet_of(d: Draft) -> Sheet
-    ensures { result ≡ typed d }
-{
-    let tasks = d.tasks;
-    let mut chains = d.chains;
-    let (edition, suite) = match d.edition {
-        Some(Edition::Two) => (2, d.suite),
-        _ => {
-            chains[0].limit = 0;
-            (1, 0)
-        }
-    };
-    Sheet {
-        tasks,
-        chains,
-        edition,
-        count: d.count,
-        suite,
-    }
-}
-
-const SIZE: usize = 16384;
+const MOST_TEXT: usize = 16384;
 
 // The sheet that a text says, or what is wrong with it first, and where.
 #[tactic(auto, unfolding(crate::specs::Run::parse_of))]
 pub fn parse(text: &[u8]) -> Result<Sheet, Fault>
     ensures { ParsePromise text.now result }
 {
-    if SIZE < text.len() {
-        return Err(Fault::after(&text[..SIZE], Wrong::TooLong));
+    if MOST_TEXT < text.len() {
+        return Err(Fault::after(&text[..MOST_TEXT], Wrong::TooLong));
     }
-    let d = scan(text)?;
-    Ok(sheet_of(d))
+    Ok(scan(text)?.sheet())
 }

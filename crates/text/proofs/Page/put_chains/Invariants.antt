@@ -1,4 +1,5 @@
-use Rattle.text.specs.Shown.{chain_lines, Puts}
+use Rattle.text.specs.Shown.{chain_lines}
+use Rattle.text.specs.Conditions.{Puts}
 use Rattle.text.proofs.Page.put_chains.Given as goal
 
 -- The chains' lines so far stand on the page.

@@ -1,4 +1,5 @@
-use Rattle.text.specs.Shown.{entry_words, Puts}
+use Rattle.text.specs.Shown.{entry_words}
+use Rattle.text.specs.Conditions.{Puts}
 use Rattle.text.proofs.Page.put_entries.Given as goal
 
 -- The entries so far stand on the page.

@@ -1,4 +1,5 @@
-use Rattle.text.specs.Shown.{task_lines, Puts}
+use Rattle.text.specs.Shown.{task_lines}
+use Rattle.text.specs.Conditions.{Puts}
 use Rattle.text.proofs.Page.put_tasks.Given as goal
 
 -- The first i tasks' lines stand on the page.

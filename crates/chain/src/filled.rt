@@ -16,30 +16,30 @@ use sheet::sound::Judged;
 
 // Its tasks are taken, and the first places hold their rows.
 #[derive(Clone, Copy)]
-pub struct Filled<'a> {
-    pub sheet: Judged,
-    pub rows: [Row<'a>; 16],
-    ghost taken: { Taken (tasks_of sheet.sheet) },
-    ghost noted: { RowsOf (tasks_of sheet.sheet) (length (tasks_of sheet.sheet)) rows },
+pub(crate) struct Filled<'a> {
+    judged: Judged,
+    rows: [Row<'a>; 16],
+    ghost taken: { Taken (tasks_of judged.sheet) },
+    ghost noted: { RowsOf (tasks_of judged.sheet) (length (tasks_of judged.sheet)) rows },
 }
 
 impl<'a> Filled<'a> {
     // The rows of a table that is filled.
-    pub(crate) fn new(sheet: Judged, h: u32, table: &'a [u32]) -> Filled<'a>
-        requires taken { Taken (tasks_of sheet.sheet) }
-        requires h_value { h ≡ hyperperiod (tasks_of sheet.sheet) }
-        requires holds { Holds (tasks_of sheet.sheet) table.now }
-        ensures { result.sheet ≡ sheet }
+    pub(crate) fn new(judged: Judged, h: u32, table: &'a [u32]) -> Filled<'a>
+        requires taken { Taken (tasks_of judged.sheet) }
+        requires h_value { h ≡ hyperperiod (tasks_of judged.sheet) }
+        requires holds { Holds (tasks_of judged.sheet) table.now }
+        ensures { result.judged ≡ judged }
     {
         let mut rows = [NONE; 16];
         let mut left = table;
-        for i in 0..sheet.sheet.count as usize {
-            let task = sheet.sheet.tasks[i];
+        for i in 0..judged.sheet.count as usize {
+            let task = judged.sheet.tasks[i];
             let (responses, rest) = left.split_at((h / task.period) as usize);
             rows[i] = Row { task, responses };
             left = rest;
         }
-        Filled { sheet, rows }
+        Filled { judged, rows }
     }
 
     // The rows of the tasks on a chain, in its order.
@@ -58,9 +58,9 @@ impl<'a> Filled<'a> {
 
     // The delay of a chain at job k of its first task.
     pub(crate) fn delay(&self, chain: Named, k: u32) -> u32
-        requires sheet_value { chain.sheet ≡ self.now.sheet }
-        requires k_bound { k < jobs (tasks_of chain.sheet.sheet) (first_of (chain_of chain.sheet.sheet chain.number)) }
-        ensures { result ≡ delay_at (tasks_of chain.sheet.sheet) (chain_of chain.sheet.sheet chain.number) (release (tasks_of chain.sheet.sheet) (first_of (chain_of chain.sheet.sheet chain.number)) k) }
+        requires sheet_value { chain.judged ≡ self.now.judged }
+        requires k_bound { k < jobs (tasks_of chain.judged.sheet) (first_of (chain_of chain.judged.sheet chain.number)) }
+        ensures { result ≡ delay_at (tasks_of chain.judged.sheet) (chain_of chain.judged.sheet chain.number) (release (tasks_of chain.judged.sheet) (first_of (chain_of chain.judged.sheet chain.number)) k) }
     {
         let c = chain.chain();
         let entries = &c.entries[..c.length as usize];
@@ -70,8 +70,8 @@ impl<'a> Filled<'a> {
 
     // What a report says of a chain. What counts from a release of its first task counts from a flag too: "add T − 1 of the first task".
     pub(crate) fn summary(&self, chain: Named, totals: Totals) -> Summary
-        requires { chain.sheet ≡ self.now.sheet }
-        ensures { result ≡ summary_at chain.sheet.sheet chain.number totals }
+        requires { chain.judged ≡ self.now.judged }
+        ensures { result ≡ summary_at chain.judged.sheet chain.number totals }
     {
         let c = chain.chain();
         let entries = &c.entries[..c.length as usize];
@@ -95,13 +95,13 @@ impl<'a> Filled<'a> {
 
     // What a report says of each chain.
     pub(crate) fn summaries(&self, totals: Totals) -> [Summary; 8]
-        ensures { result ≡ summaries_to self.now.sheet.sheet totals (chain_count self.now.sheet.sheet) }
+        ensures { result ≡ summaries_to self.now.judged.sheet totals (chain_count self.now.judged.sheet) }
     {
-        let sheet = self.sheet;
+        let judged = self.judged;
         let mut chains = [Summary::default(); 8];
-        for c in 0..sheet::chain_count(sheet.sheet) {
+        for c in 0..sheet::chain_count(judged.sheet) {
             let number = c + 1;
-            chains[c as usize] = self.summary(Named { sheet, number }, totals);
+            chains[c as usize] = self.summary(Named { judged, number }, totals);
         }
         chains
     }

@@ -58,14 +58,14 @@ pub fn delay(s: Sheet, number: u8, release: u32, table: &mut [u32]) -> Result<u3
     if size.hyperperiod <= release {
         return Err(Refusal::Release);
     }
-    let sheet = Judged { sheet: s };
-    let chain = Named { sheet, number };
+    let judged = Judged { sheet: s };
+    let chain = Named { judged, number };
     let period = chain.first_period();
     if 0 < release % period {
         return Err(Refusal::Release);
     }
     let totals = schedule::responses(s, table)?;
-    let filled = Filled::new(sheet, totals.hyperperiod, table);
+    let filled = Filled::new(judged, totals.hyperperiod, table);
     Ok(filled.delay(chain, release / period))
 }
 
@@ -75,9 +75,9 @@ pub fn figures(s: Sheet, number: u8, table: &mut [u32]) -> Result<TaskFigures, R
 {
     lacking(s, number)?;
     let TaskResponses { totals, greatest } = schedule::task_responses(s, table)?;
-    let sheet = Judged { sheet: s };
-    let chain = Named { sheet, number };
-    let filled = Filled::new(sheet, totals.hyperperiod, table);
+    let judged = Judged { sheet: s };
+    let chain = Named { judged, number };
+    let filled = Filled::new(judged, totals.hyperperiod, table);
     let summary = filled.summary(chain, totals);
     Ok(TaskFigures { summary, greatest })
 }
@@ -87,8 +87,8 @@ pub fn suite(s: Sheet, table: &mut [u32]) -> Result<Suite, Refusal>
     ensures { SuitePromise s table.old result table.new }
 {
     let TaskResponses { totals, greatest } = schedule::task_responses(s, table)?;
-    let sheet = Judged { sheet: s };
-    let filled = Filled::new(sheet, totals.hyperperiod, table);
+    let judged = Judged { sheet: s };
+    let filled = Filled::new(judged, totals.hyperperiod, table);
     let chains = filled.summaries(totals);
     Ok(Suite {
         totals,
@@ -106,8 +106,8 @@ pub fn margin(s: Sheet, number: u8, limit: u32, table: &mut [u32]) -> Result<i32
         schedule::sizes(s)?;
         return Err(Refusal::Limit);
     }
-    let filled = figures(s, number, table)?;
-    Ok(less_of(limit, filled.summary.worst))
+    let figures = figures(s, number, table)?;
+    Ok(less_of(limit, figures.summary.worst))
 }
 
 // "The margin call without a limit".

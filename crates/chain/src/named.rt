@@ -9,34 +9,34 @@ use sheet::Chain;
 use sheet::sound::Judged;
 
 #[derive(Clone, Copy)]
-pub struct Named {
-    pub sheet: Judged,
-    pub number: u8,
-    ghost known: { lacks sheet.sheet number ≡ fine },
+pub(crate) struct Named {
+    pub(crate) judged: Judged,
+    pub(crate) number: u8,
+    ghost known: { lacks judged.sheet number ≡ fine },
 }
 
 impl Named {
     // Its length and its entries.
     pub(crate) fn chain(self) -> Chain
-        ensures chain_value { result ≡ chain_at self.sheet.sheet self.number }
+        ensures chain_value { result ≡ chain_at self.judged.sheet self.number }
         ensures whole { length result.entries ≡ 16 }
     {
-        sheet::chain_of(self.sheet, self.number).unwrap()
+        sheet::chain_of(self.judged, self.number).unwrap()
     }
 
     // T of its first task.
     pub(crate) fn first_period(self) -> u32
-        ensures { (result ≡ period (tasks_of self.sheet.sheet) (first_of (chain_of self.sheet.sheet self.number))) × (0 < result) }
+        ensures { (result ≡ period (tasks_of self.judged.sheet) (first_of (chain_of self.judged.sheet self.number))) × (0 < result) }
     {
         let first = self.chain().entries[0];
-        self.sheet.sheet.tasks[first as usize].period
+        self.judged.sheet.tasks[first as usize].period
     }
 
     // "the margin under its limit", and for an old sheet under 1,000.
     pub(crate) fn report_limit(self) -> u32
-        ensures { (result ≡ report_limit self.sheet.sheet self.number) × (result ≤ most_limit) }
+        ensures { (result ≡ report_limit self.judged.sheet self.number) × (result ≤ most_limit) }
     {
-        if self.sheet.sheet.edition == 1 {
+        if self.judged.sheet.edition == 1 {
             return sheet::OLD_LIMIT;
         }
         self.chain().limit

@@ -7,9 +7,9 @@ use theory::Task;
 
 // A task, and the response of each of its jobs released before H.
 #[derive(Clone, Copy)]
-pub struct Row<'a> {
-    pub task: Task,
-    pub responses: &'a [u32],
+pub(crate) struct Row<'a> {
+    pub(crate) task: Task,
+    pub(crate) responses: &'a [u32],
     ghost period_positive: { 0 < task.period },
     ghost period_most: { task.period ≤ most_period },
     ghost some: { 0 < length responses.now },
@@ -19,13 +19,13 @@ pub struct Row<'a> {
 
 // The job of the next task that a path goes on to, and how long it is from the producer's release to its own.
 #[derive(Clone, Copy)]
-pub struct HandOver {
-    pub job: u32,
-    pub wait: u32,
+pub(crate) struct HandOver {
+    pub(crate) job: u32,
+    pub(crate) wait: u32,
 }
 
 // A place that holds no task of the sheet.
-pub const NONE: Row<'static> = Row {
+pub(crate) const NONE: Row<'static> = Row {
     task: Task {
         period: 1,
         budget: 1,
@@ -42,6 +42,7 @@ impl Row<'_> {
         ensures { result ≡ response_in self.now k }
     {
         let count = self.responses.len() as u32;
+        // Most jobs are before H: the branch saves them a division.
         let job = if k < count { k } else { k % count };
         self.responses[job as usize]
     }

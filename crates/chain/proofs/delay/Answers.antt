@@ -64,8 +64,8 @@ returns-then-size-release c =
     answers_number 12 s c.args.table.now (omega arith)
     (delay_beyond s c.args.number has (length c.args.table.now) fits c.args.release (omega (arith, c.if-size-release.true, (sizes_given s fits).hyperperiod_is)))
 
-pub invariant_of-sheet : goal.invariant_of-sheet
-invariant_of-sheet c = record { sound = judged_sound c.args.s (sizes_given c.args.s (sym c.sizes.ensures ∙ ap told c.in_ok-size.was)).judged_fine }
+pub invariant_of-judged : goal.invariant_of-judged
+invariant_of-judged c = record { sound = judged_sound c.args.s (sizes_given c.args.s (sym c.sizes.ensures ∙ ap told c.in_ok-size.was)).judged_fine }
 
 pub returns-then-release-period-gt0 : goal.returns-then-release-period-gt0
 returns-then-release-period-gt0 c =

@@ -35,8 +35,8 @@ returns-in_err-totals c =
 ready : (c : In_ok-totals) → (Sound c.args.s × Taken (tasks_of c.args.s)) × ((c.in_ok-totals.field-0.totals.hyperperiod ≡ hyperperiod (tasks_of c.args.s)) × Holds (tasks_of c.args.s) c.task_responses.new.table)
 ready c = tasks_ready c.args.s c.args.table.now (sym c.task_responses.ensures.0 ∙ ap told c.in_ok-totals.was) c.task_responses.ensures.1
 
-pub invariant_of-sheet : goal.invariant_of-sheet
-invariant_of-sheet c = record { sound = (ready (goal.at.invariant_of-sheet c).In_ok-totals).0.0 }
+pub invariant_of-judged : goal.invariant_of-judged
+invariant_of-judged c = record { sound = (ready (goal.at.invariant_of-judged c).In_ok-totals).0.0 }
 
 pub new-filled-requires : goal.new-filled-requires
 new-filled-requires c = let r = ready (goal.at.new-filled-requires c).In_ok-totals in record { taken = r.0.1; h_value = r.1.0; holds = r.1.1 }

@@ -38,18 +38,18 @@ returns-then-limit-gt-MOST_LIMIT c =
     (margin_over s c.args.number (length old) c.args.limit (omega arith) ∙ over_known s c.args.number has
     ∙ ap (λ z. after z (λ size. refused 13 [])) (sym c.sizes.ensures ∙ ap told c.in_ok-sizes.was))
 
-pub returns-in_err-filled : goal.returns-in_err-filled
-returns-in_err-filled c =
+pub returns-in_err-figures : goal.returns-in_err-figures
+returns-in_err-figures c =
     let s = c.args.s in
     let old = c.args.table.now in
-    let p = err_from_is_err_and c.from_residual-in_err-filled.result c.from_residual-in_err-filled.ensures.1 in
+    let p = err_from_is_err_and c.from_residual-in_err-figures.result c.from_residual-in_err-figures.ensures.1 in
     rw (p.1, p.2, margin_tasks s c.args.number (length old) c.args.limit (omega arith))
-    (answers_no s old _ c.in_err-filled.field-0.0 (sym c.figures.ensures.0 ∙ ap told c.in_err-filled.was) c.figures.ensures.1)
+    (answers_no s old _ c.in_err-figures.field-0.0 (sym c.figures.ensures.0 ∙ ap told c.in_err-figures.was) c.figures.ensures.1)
 
 pub less_of-requires : goal.less_of-requires
 less_of-requires c =
     let s = c.args.s in
-    let known = summary_in s c.args.number (length c.args.table.now) (sym c.figures.ensures.0 ∙ ap told c.in_ok-filled.was) in
+    let known = summary_in s c.args.number (length c.args.table.now) (sym c.figures.ensures.0 ∙ ap told c.in_ok-figures.was) in
     let g = figures_given s c.args.number (length c.args.table.now) known in
     (omega arith, omega (arith, g.worst_is, ap (λ (c : Figure). c.ticks) g.sampling_is, worst_most g.taken))
 
@@ -59,4 +59,4 @@ returns c =
     let old = c.args.table.now in
     let read = to_z-of_z w32 c.less_of.result (record { sfits = c.less_of.type_inv }) in
     rw (margin_tasks s c.args.number (length old) c.args.limit (omega arith), read)
-    (answers_given s old _ (sym c.figures.ensures.0 ∙ ap told c.in_ok-filled.was) (ap given (sym c.less_of.ensures)) c.figures.ensures.1)
+    (answers_given s old _ (sym c.figures.ensures.0 ∙ ap told c.in_ok-figures.was) (ap given (sym c.less_of.ensures)) c.figures.ensures.1)

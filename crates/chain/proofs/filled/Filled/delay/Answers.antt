@@ -15,10 +15,10 @@ use Rattle.chain.proofs.filled.Filled.delay.Goals as goal
 
 module _ (c : After-path-path) where
   abbrev ts : List Task
-  ts = tasks_of c.args.chain.sheet.sheet
+  ts = tasks_of c.args.chain.judged.sheet
 
   abbrev chain : List ℕ
-  chain = chain_of c.args.chain.sheet.sheet c.args.chain.number
+  chain = chain_of c.args.chain.judged.sheet c.args.chain.number
 
   abbrev path : List Row
   path = take (length (take c.chain-c.result.length c.chain-c.result.entries)) c.path-path.result
@@ -31,13 +31,13 @@ module _ (c : After-path-path) where
   same_noted = subst (λ (s : Judged). RowsOf (tasks_of s.sheet) (length (tasks_of s.sheet)) c.args.self.now.rows) (sym c.requires.sheet_value) c.args.self.now.noted
 
   taken : TakenChain ts chain
-  taken = sheet_chain c.args.chain.sheet.sheet c.args.chain.sheet.sound same_taken c.args.chain.number c.args.chain.known
+  taken = sheet_chain c.args.chain.judged.sheet c.args.chain.judged.sound same_taken c.args.chain.number c.args.chain.known
 
   some : 0 < length chain
-  some = lent_some c.args.chain.sheet.sheet c.args.chain.sheet.sound c.args.chain.number c.args.chain.known c.chain-c.result c.chain-c.ensures.chain_value c.chain-c.ensures.whole
+  some = lent_some c.args.chain.judged.sheet c.args.chain.judged.sound c.args.chain.number c.args.chain.known c.chain-c.result c.chain-c.ensures.chain_value c.chain-c.ensures.whole
 
   is : (length path ≡ length chain) × PathOf ts chain (length chain) path
-  is = lent_path c.args.chain.sheet.sheet c.args.chain.sheet.sound c.args.chain.number c.args.chain.known c.chain-c.result c.chain-c.ensures.chain_value c.chain-c.ensures.whole
+  is = lent_path c.args.chain.judged.sheet c.args.chain.judged.sound c.args.chain.number c.args.chain.known c.chain-c.result c.chain-c.ensures.chain_value c.chain-c.ensures.whole
       c.args.self.now.rows c.path-path.result same_noted c.path-path.ensures.0 c.path-path.ensures.1
 
 pub walk-requires : goal.walk-requires

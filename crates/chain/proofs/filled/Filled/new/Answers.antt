@@ -38,15 +38,15 @@ loop-i-init c = record { whole = refl; left_is = refl; noted = λ i l past. absu
 pub split_at-requires : goal.split_at-requires
 split_at-requires c =
     let q = c.requires in
-    room c.args.sheet.sheet c.args.sheet.sound q.taken q.h_value q.holds c.loop-i.i (omega arith) c.loop-i.invariant.left_is
+    room c.args.judged.sheet c.args.judged.sound q.taken q.h_value q.holds c.loop-i.i (omega arith) c.loop-i.invariant.left_is
 
 pub invariant_of-rows-in-loop-i : goal.invariant_of-rows-in-loop-i
 invariant_of-rows-in-loop-i c =
     let q = c.requires in
     let i = c.loop-i.i in
     let e = c.loop-i.invariant.left_is in
-    let k = known c.args.sheet.sheet c.args.sheet.sound q.taken q.h_value q.holds i (omega arith) e in
-    let row = cut c.args.sheet.sheet c.args.sheet.sound q.taken q.h_value q.holds i (omega arith) e c.split_at.ensures.front in
+    let k = known c.args.judged.sheet c.args.judged.sound q.taken q.h_value q.holds i (omega arith) e in
+    let row = cut c.args.judged.sheet c.args.judged.sound q.taken q.h_value q.holds i (omega arith) e c.split_at.ensures.front in
     record {
       period_positive = row_period_positive q.taken i k row;
       period_most = row_period_most q.taken i k row;
@@ -60,16 +60,16 @@ loop-i-preserved c =
     let q = c.requires in
     let i = c.loop-i.i in
     let e = c.loop-i.invariant.left_is in
-    let k = known c.args.sheet.sheet c.args.sheet.sound q.taken q.h_value q.holds i (omega arith) e in
+    let k = known c.args.judged.sheet c.args.judged.sound q.taken q.h_value q.holds i (omega arith) e in
     record {
       whole = simp length-set c.loop-i.invariant.whole;
-      left_is = next c.args.sheet.sheet c.args.sheet.sound q.taken q.h_value q.holds i (omega arith) e c.split_at.ensures.back;
-      noted = rows_more (tasks_of c.args.sheet.sheet) i c.loop-i.rows _ c.loop-i.invariant.noted
-          (cut c.args.sheet.sheet c.args.sheet.sound q.taken q.h_value q.holds i (omega arith) e c.split_at.ensures.front) (omega (arith, k, q.taken.count_most));
+      left_is = next c.args.judged.sheet c.args.judged.sound q.taken q.h_value q.holds i (omega arith) e c.split_at.ensures.back;
+      noted = rows_more (tasks_of c.args.judged.sheet) i c.loop-i.rows _ c.loop-i.invariant.noted
+          (cut c.args.judged.sheet c.args.judged.sound q.taken q.h_value q.holds i (omega arith) e c.split_at.ensures.front) (omega (arith, k, q.taken.count_most));
     }
 
 pub invariant_of-result : goal.invariant_of-result
 invariant_of-result c = record {
   taken = c.requires.taken;
-  noted = λ i l past. c.loop-i.invariant.noted i (omega (arith, tasks_length c.args.sheet.sheet c.args.sheet.sound)) past;
+  noted = λ i l past. c.loop-i.invariant.noted i (omega (arith, tasks_length c.args.judged.sheet c.args.judged.sound)) past;
 }

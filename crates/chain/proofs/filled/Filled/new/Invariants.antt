@@ -9,6 +9,6 @@ use Rattle.chain.proofs.filled.Filled.new.Given as goal
 abbrev pub invariant-loop-i : goal.invariant-loop-i
 invariant-loop-i l = record {
   whole : length l.rows ≡ 16;
-  left_is : l.left ≡ drop (sum l.i (jobs (tasks_of l.sheet.sheet))) l.table;
-  noted : RowsOf (tasks_of l.sheet.sheet) l.i l.rows;
+  left_is : l.left ≡ drop (sum l.i (jobs (tasks_of l.judged.sheet))) l.table;
+  noted : RowsOf (tasks_of l.judged.sheet) l.i l.rows;
 }

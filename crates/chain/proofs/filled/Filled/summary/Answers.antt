@@ -30,10 +30,10 @@ summary_is ts chain totals limit f q w b z = rw (z, b, w, q, f) refl
 
 module _ (c : After-first_period-wait) where
   abbrev ts : List Task
-  ts = tasks_of c.args.chain.sheet.sheet
+  ts = tasks_of c.args.chain.judged.sheet
 
   abbrev chain : List ℕ
-  chain = chain_of c.args.chain.sheet.sheet c.args.chain.number
+  chain = chain_of c.args.chain.judged.sheet c.args.chain.number
 
   abbrev path : List Row
   path = take (length (take c.chain-c.result.length c.chain-c.result.entries)) c.path-path.result
@@ -46,13 +46,13 @@ module _ (c : After-first_period-wait) where
   same_noted = subst (λ (s : Judged). RowsOf (tasks_of s.sheet) (length (tasks_of s.sheet)) c.args.self.now.rows) (sym c.requires) c.args.self.now.noted
 
   taken : TakenChain ts chain
-  taken = sheet_chain c.args.chain.sheet.sheet c.args.chain.sheet.sound same_taken c.args.chain.number c.args.chain.known
+  taken = sheet_chain c.args.chain.judged.sheet c.args.chain.judged.sound same_taken c.args.chain.number c.args.chain.known
 
   some : 0 < length chain
-  some = lent_some c.args.chain.sheet.sheet c.args.chain.sheet.sound c.args.chain.number c.args.chain.known c.chain-c.result c.chain-c.ensures.chain_value c.chain-c.ensures.whole
+  some = lent_some c.args.chain.judged.sheet c.args.chain.judged.sound c.args.chain.number c.args.chain.known c.chain-c.result c.chain-c.ensures.chain_value c.chain-c.ensures.whole
 
   is : (length path ≡ length chain) × PathOf ts chain (length chain) path
-  is = lent_path c.args.chain.sheet.sheet c.args.chain.sheet.sound c.args.chain.number c.args.chain.known c.chain-c.result c.chain-c.ensures.chain_value c.chain-c.ensures.whole
+  is = lent_path c.args.chain.judged.sheet c.args.chain.judged.sound c.args.chain.number c.args.chain.known c.chain-c.result c.chain-c.ensures.chain_value c.chain-c.ensures.whole
       c.args.self.now.rows c.path-path.result same_noted c.path-path.ensures.0 c.path-path.ensures.1
 
   sampling_is : c.sampling-sampling.result ≡ figure_of ts chain
@@ -84,7 +84,7 @@ less_of-margin-requires c =
 pub returns : goal.returns
 returns c =
     let at = (goal.at.returns c).After-first_period-wait in
-    let s = c.args.chain.sheet.sheet in
+    let s = c.args.chain.judged.sheet in
     let number = c.args.chain.number in
     let ticks = c.sampling-sampling.result.ticks in
     let wait = ap (λ t. t - 1) (period_is at) in

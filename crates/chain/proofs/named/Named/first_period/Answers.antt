@@ -8,8 +8,8 @@ use Rattle.chain.proofs.named.Named.first_period.Goals as goal
 
 pub returns : goal.returns
 returns c =
-    let s = c.args.self.sheet.sheet in
-    let sound = c.args.self.sheet.sound in
+    let s = c.args.self.judged.sheet in
+    let sound = c.args.self.judged.sound in
     let number = c.args.self.number in
     let chain = c.chain.result in
     let p = get_or chain.entries 0 0 in

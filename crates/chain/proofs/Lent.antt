@@ -1,4 +1,4 @@
--- The chain of a number, of whose sixteen places the first `length` are lent.
+-- The chain of a number, which lends its tasks: the first `length` of its sixteen entries.
 use Rattle.std.proofs.Common.{◌≡◌, ℕ, ◌-◌, ◌<◌, List, length, get_or, take, sym, ap, ◌∙◌, arith, get_or-take}
 use Rattle.answers.specs.Answers.{fine}
 use Rattle.sheet.specs.declared.Chain.{Chain}
@@ -30,7 +30,7 @@ module _ (s : Sheet) (sound : Sound s) (number : ℕ) (known : lacks s number �
   lent_first = sym (get_or-take c.length c.entries 0 0 (omega (arith, same, long, lent_some))) ∙ ap (λ xs. get_or xs 0 0) lent
 
   -- The rows of its tasks are its path.
-  pub lent_path : (rows path : List Row) → RowsOf (tasks_of s) (length (tasks_of s)) rows → length path ≡ 16 → Copied entries rows (length entries) path
-      → (length (take (length entries) path) ≡ length (chain_of s number)) × PathOf (tasks_of s) (chain_of s number) (length (chain_of s number)) (take (length entries) path)
-  lent_path rows path all room copied =
-      front_path (tasks_of s) (chain_of s number) entries rows path lent (omega (arith, chain_most _ sound number known)) all (λ j l. entry_listed _ sound number known j l) copied
+  pub lent_path : {tasks : List ℕ} → tasks ≡ entries → (rows path : List Row) → RowsOf (tasks_of s) (length (tasks_of s)) rows → length path ≡ 16 → Copied tasks rows (length tasks) path
+      → (length (take (length tasks) path) ≡ length (chain_of s number)) × PathOf (tasks_of s) (chain_of s number) (length (chain_of s number)) (take (length tasks) path)
+  lent_path {tasks} same rows path all room copied =
+      front_path (tasks_of s) (chain_of s number) tasks rows path (same ∙ lent) (omega (arith, chain_most _ sound number known)) all (λ j l. entry_listed _ sound number known j l) copied

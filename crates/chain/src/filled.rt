@@ -33,8 +33,7 @@ impl<'a> Filled<'a> {
     {
         let mut rows = [NONE; 16];
         let mut left = table;
-        for i in 0..judged.sheet.count as usize {
-            let task = judged.sheet.tasks[i];
+        for (i, &task) in judged.tasks().iter().enumerate() {
             let (responses, rest) = left.split_at((h / task.period) as usize);
             rows[i] = Row { task, responses };
             left = rest;
@@ -63,9 +62,9 @@ impl<'a> Filled<'a> {
         ensures { result ≡ delay_at (tasks_of chain.judged.sheet) (chain_of chain.judged.sheet chain.number) (release (tasks_of chain.judged.sheet) (first_of (chain_of chain.judged.sheet chain.number)) k) }
     {
         let c = chain.chain();
-        let entries = &c.entries[..c.length as usize];
-        let path = self.path(entries);
-        path::walk(&path[..entries.len()], k)
+        let tasks = c.tasks();
+        let path = self.path(tasks);
+        path::walk(&path[..tasks.len()], k)
     }
 
     // What a report says of a chain. What counts from a release of its first task counts from a flag too: "add T − 1 of the first task".
@@ -74,9 +73,9 @@ impl<'a> Filled<'a> {
         ensures { result ≡ summary_at chain.judged.sheet chain.number totals }
     {
         let c = chain.chain();
-        let entries = &c.entries[..c.length as usize];
-        let path = self.path(entries);
-        let path = &path[..entries.len()];
+        let tasks = c.tasks();
+        let path = self.path(tasks);
+        let path = &path[..tasks.len()];
         let sampling = path::sampling(path);
         let sampling_bound = path::bound(path);
         let wait = chain.first_period() - 1;

@@ -2,13 +2,12 @@
 use Rattle.std.proofs.Common.{◌≡◌, length, drop}
 use Rattle.arith.specs.Ranges.{sum}
 use Rattle.theory.specs.Model.Responses.{jobs}
-use Rattle.sheet.specs.Tasks.{tasks_of}
 use Rattle.chain.specs.Paths.{RowsOf}
 use Rattle.chain.proofs.filled.Filled.new.Given as goal
 
 abbrev pub invariant-loop-i : goal.invariant-loop-i
 invariant-loop-i l = record {
   whole : length l.rows ≡ 16;
-  left_is : l.left ≡ drop (sum l.i (jobs (tasks_of l.judged.sheet))) l.table;
-  noted : RowsOf (tasks_of l.judged.sheet) l.i l.rows;
+  left_is : l.left ≡ drop (sum l.i (jobs l.task-items)) l.table;
+  noted : RowsOf l.task-items l.i l.rows;
 }

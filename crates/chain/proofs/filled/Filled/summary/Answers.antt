@@ -36,7 +36,7 @@ module _ (c : After-first_period-wait) where
   chain = chain_of c.args.chain.judged.sheet c.args.chain.number
 
   abbrev path : List Row
-  path = take (length (take c.chain-c.result.length c.chain-c.result.entries)) c.path-path.result
+  path = take (length c.tasks-tasks.result.now) c.path-path.result
 
   -- The chain is one of the sheet whose table is filled.
   same_taken : Taken ts
@@ -53,7 +53,7 @@ module _ (c : After-first_period-wait) where
 
   is : (length path ≡ length chain) × PathOf ts chain (length chain) path
   is = lent_path c.args.chain.judged.sheet c.args.chain.judged.sound c.args.chain.number c.args.chain.known c.chain-c.result c.chain-c.ensures.chain_value c.chain-c.ensures.whole
-      c.args.self.now.rows c.path-path.result same_noted c.path-path.ensures.0 c.path-path.ensures.1
+      c.tasks-tasks.ensures c.args.self.now.rows c.path-path.result same_noted c.path-path.ensures.0 c.path-path.ensures.1
 
   sampling_is : c.sampling-sampling.result ≡ figure_of ts chain
   sampling_is = path_sampling taken some path is.0 is.1 c.sampling-sampling.result c.sampling-sampling.ensures

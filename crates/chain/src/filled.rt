@@ -14,7 +14,7 @@ use crate::{less_of, path};
 use schedule::Totals;
 use sheet::sound::Judged;
 
-// Its tasks are taken, and the first places hold their rows.
+// Its tasks are taken, and the first places hold their rows: sixteen, as fixed memory is a rule of the project.
 #[derive(Clone, Copy)]
 pub(crate) struct Filled<'a> {
     judged: Judged,
@@ -41,16 +41,16 @@ impl<'a> Filled<'a> {
         Filled { judged, rows }
     }
 
-    // The rows of the tasks on a chain, in its order.
+    // The rows of the tasks on a chain, in its order, in the first of sixteen places.
     fn path(&self, chain: &[u8]) -> [Row<'a>; 16]
         requires few { length chain.now ≤ 16 }
         requires entries { (j : _) → j < length chain.now → get_or chain.now j 0 < 16 }
-        ensures { (length result ≡ 16) × Copied chain.now self.now.rows (length chain.now) result }
+        ensures { Copied chain.now self.now.rows (length chain.now) result }
     {
         let rows = &self.rows[..];
         let mut path = [NONE; 16];
         for (j, &task) in chain.iter().enumerate() {
-            path[j] = rows[task as usize];
+            path[j] = rows[usize::from(task)];
         }
         path
     }
@@ -100,7 +100,7 @@ impl<'a> Filled<'a> {
         let mut chains = [Summary::default(); 8];
         for c in 0..sheet::chain_count(judged.sheet) {
             let number = c + 1;
-            chains[c as usize] = self.summary(Named { judged, number }, totals);
+            chains[usize::from(c)] = self.summary(Named { judged, number }, totals);
         }
         chains
     }

@@ -18,8 +18,7 @@ pub(crate) struct Named {
 impl Named {
     // Its length and its entries.
     pub(crate) fn chain(self) -> Chain
-        ensures chain_value { result ≡ chain_at self.judged.sheet self.number }
-        ensures whole { length result.entries ≡ 16 }
+        ensures { result ≡ chain_at self.judged.sheet self.number }
     {
         sheet::chain_of(self.judged, self.number).unwrap()
     }
@@ -29,7 +28,7 @@ impl Named {
         ensures { (result ≡ period (tasks_of self.judged.sheet) (first_of (chain_of self.judged.sheet self.number))) × (0 < result) }
     {
         let first = self.chain().entries[0];
-        self.judged.sheet.tasks[first as usize].period
+        self.judged.sheet.tasks[usize::from(first)].period
     }
 
     // "the margin under its limit", and for an old sheet under 1,000.

@@ -72,7 +72,7 @@ pub(crate) fn sampling(path: &[Row<'_>]) -> Figure
     }
 }
 
-// The quick bound: what each pair adds, and R of the last task.
+// The quick bound: what each pair adds, and R of the last task. The one of recurrence goes by numbers of tasks, as it has no rows.
 pub(crate) fn bound(path: &[Row<'_>]) -> u32
     requires { length path.now ≤ 16 }
     ensures { result ≡ bound_in path.now }

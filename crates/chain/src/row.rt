@@ -70,7 +70,7 @@ impl Row<'_> {
         HandOver { job, wait }
     }
 
-    // What the pair with the next task adds to the quick bound.
+    // What the pair with the next task adds to the quick bound; by the law that is named here it fits.
     #[tactic(auto, using(crate::specs::PathLaws::pair_near))]
     pub(crate) fn pair_bound(&self, next: &Row<'_>) -> u32
         ensures { result ≡ pair_in self.now next.now }

@@ -34,11 +34,11 @@ module _ (c : After-path-path) where
   taken = sheet_chain c.args.chain.judged.sheet c.args.chain.judged.sound same_taken c.args.chain.number c.args.chain.known
 
   some : 0 < length chain
-  some = lent_some c.args.chain.judged.sheet c.args.chain.judged.sound c.args.chain.number c.args.chain.known c.chain-c.result c.chain-c.ensures.chain_value c.chain-c.ensures.whole
+  some = lent_some c.args.chain.judged.sheet c.args.chain.judged.sound c.args.chain.number c.args.chain.known c.chain-c.result c.chain-c.ensures (omega arith)
 
   is : (length path ≡ length chain) × PathOf ts chain (length chain) path
-  is = lent_path c.args.chain.judged.sheet c.args.chain.judged.sound c.args.chain.number c.args.chain.known c.chain-c.result c.chain-c.ensures.chain_value c.chain-c.ensures.whole
-      c.tasks-tasks.ensures c.args.self.now.rows c.path-path.result same_noted c.path-path.ensures.0 c.path-path.ensures.1
+  is = lent_path c.args.chain.judged.sheet c.args.chain.judged.sound c.args.chain.number c.args.chain.known c.chain-c.result c.chain-c.ensures (omega arith)
+      c.tasks-tasks.ensures c.args.self.now.rows c.path-path.result same_noted (omega arith) c.path-path.ensures
 
 pub walk-requires : goal.walk-requires
 walk-requires c =

@@ -19,5 +19,5 @@ loop-c-init c = ap (replicate 8) (let d = c.default-chains.ensures in zeros d.0.
 pub loop-c-preserved : goal.loop-c-preserved
 loop-c-preserved c =
     let l = c.loop-c in
-    ap₂ (λ xs x. set xs l.c x) l.invariant c.summary.ensures
-    ∙ places_set 8 no_summary (λ k. summary_at c.args.self.now.judged.sheet (k + 1) c.args.totals) l.c (omega (arith, c.chain_count-c-end.ensures, chains_most c.args.self.now.judged.sheet c.args.self.now.judged.sound))
+    rw c.from.ensures (ap₂ (λ xs x. set xs l.c x) l.invariant c.summary.ensures
+    ∙ places_set 8 no_summary (λ k. summary_at c.args.self.now.judged.sheet (k + 1) c.args.totals) l.c (omega (arith, c.chain_count-c-end.ensures, chains_most c.args.self.now.judged.sheet c.args.self.now.judged.sound)))

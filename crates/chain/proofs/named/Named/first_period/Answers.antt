@@ -13,7 +13,7 @@ returns c =
     let number = c.args.self.number in
     let chain = c.chain.result in
     let p = get_or chain.entries 0 0 in
-    let first = lent_first s sound number c.args.self.known chain c.chain.ensures.chain_value c.chain.ensures.whole in
-    let some = lent_some s sound number c.args.self.known chain c.chain.ensures.chain_value c.chain.ensures.whole in
+    let first = lent_first s sound number c.args.self.known chain c.chain.ensures (omega arith) in
+    let some = lent_some s sound number c.args.self.known chain c.chain.ensures (omega arith) in
     let known : p < s.count = omega (arith, first, entry_listed s sound number c.args.self.known 0 some, tasks_length s sound) in
-    (sym (period_at s sound p known) ∙ ap (period (tasks_of s)) first, (place_allowed s sound p known).period_positive)
+    rw c.from.ensures (sym (period_at s sound p known) ∙ ap (period (tasks_of s)) first, (place_allowed s sound p known).period_positive)

@@ -18,5 +18,5 @@ returns c =
     let s = c.args.self.judged.sheet in
     let number = c.args.self.number in
     let is : c.chain.result.limit ≡ report_limit s number =
-    ap (λ (x : Chain). x.limit) c.chain.ensures.chain_value ∙ sym (ap (λ b. cond b old_limit (limit_of s number)) (ne_eqb s.edition 1 c.if-self-eq1.false)) in
+    ap (λ (x : Chain). x.limit) c.chain.ensures ∙ sym (ap (λ b. cond b old_limit (limit_of s number)) (ne_eqb s.edition 1 c.if-self-eq1.false)) in
     (is, omega (arith, is, report_most _ c.args.self.judged.sound number c.args.self.known))

@@ -1,6 +1,7 @@
 // The library for programs in C: document 01's calls over the bytes of a sheet. Each returns the number of the refusal, or 0; what
 // else it answers goes to lent slices. No sheet and no answer crosses over, and of structs the tell-tale's record alone, so nothing has to be
-// trusted but pointers, lengths and that layout. What is returned and left is defined in specs/Promises.antt; include/bellkettle.h says it to those who call.
+// trusted but pointers, lengths and that layout. What is returned and left is defined in specs/Promises.antt; include/bellkettle.h says it to
+// those who call. That an export returns a number, fills slices and takes as many of them is the C interface's, and so is what `spread` takes.
 #![tactic(auto)]
 
 ghost use Rattle.std.specs.Prelude.{◌≡◌, ◌+◌, ◌*◌, ◌<◌, List, ℤ, length, get_or};
@@ -11,7 +12,7 @@ ghost use Rattle.sheet.specs.Tasks.{tasks_of};
 ghost use Rattle.schedule.specs.Calls.{table_after};
 ghost use Rattle.bellkettle.specs.Numbers.{in_numbers, alone, signed, totals_numbers, summary_numbers, bounds_numbers, count_numbers, replayed_numbers, answer_to, file_of, with_file};
 ghost use Rattle.bellkettle.specs.Fields.{periods_in, budgets_in, ranks_in, limits_in, lengths_in, entries_in, spread, counted, tasks_counted, chains_counted, task_from, chain_from, sheet_from};
-ghost use Rattle.bellkettle.specs.Promises.{Returned, SheetAsked, QuickAsked, SheetRead, SheetWritten, ReplayAsked, RecordBegun, RecordStamped};
+ghost use Rattle.bellkettle.specs.Promises.{Returned, SheetAsked, quick_in, QuickAsked, SheetRead, SheetWritten, ReplayAsked, RecordBegun, RecordStamped};
 
 use answers::Refusal;
 use chain::Summary;
@@ -23,7 +24,8 @@ use std::array;
 use telltale::Record;
 use theory::Task;
 
-// What is asked of a sheet, or of the chain of a number.
+// What is asked of a sheet, or of the chain of a number. The promise of five exports speaks of it (Promises.SheetAsked), so it stays an enum
+// and is no closure.
 #[derive(Clone, Copy)]
 enum Question {
     Responses,
@@ -252,21 +254,24 @@ pub extern "C" fn bellkettle_figures(
     ask(Question::Figures(chain), sheet, table, values)
 }
 
+// Both bounds of a chain, or what the sheet or the call refuses.
+fn quick_bound(sheet: &[u8], chain: u8) -> Result<Bounds, Refusal>
+    ensures { in_numbers bounds_numbers (told result) ≡ quick_in sheet.now chain }
+{
+    let s = sheet::read(sheet)?;
+    Ok(recurrence::bound(s, chain)?.bounds)
+}
+
 // The quick bound with no table: from a release of the chain's first task on, and from a flag on.
 #[unsafe(no_mangle)]
 pub extern "C" fn bellkettle_quick_bound(sheet: &[u8], chain: u8, values: &mut [i64]) -> u8
     ensures { QuickAsked sheet.now chain result values.old values.new }
 {
-    match sheet::read(sheet) {
-        Ok(s) => hand(
-            recurrence::bound(s, chain).map(|found| found.bounds),
-            values,
-        ),
-        Err(r) => refuse(r, values),
-    }
+    hand(quick_bound(sheet, chain), values)
 }
 
-// The entries of all chains, sixteen places for each.
+// The entries of all chains, sixteen places for each. By index: of chunks_mut(16) zipped with the chains, the plain form, a proof doesn't know
+// what becomes of the slice, and over the chains' entries as one array it was tried and the proof didn't close.
 fn spread_entries(s: &Sheet, entries: &mut [u8])
     ensures { entries.new ≡ spread 128 (entries_in s.now) entries.old }
 {
@@ -314,14 +319,11 @@ pub extern "C" fn bellkettle_read(
 ) -> u8
     ensures { SheetRead sheet.now result values.old values.new periods.old periods.new budgets.old budgets.new ranks.old ranks.new limits.old limits.new lengths.old lengths.new entries.old entries.new }
 {
-    match sheet::read(sheet) {
-        Ok(s) => {
-            spread(&s, periods, budgets, ranks, limits, lengths, entries);
-            s.tell(values);
-            0
-        }
-        Err(r) => refuse(r, values),
+    let made = sheet::read(sheet);
+    if let Ok(s) = &made {
+        spread(s, periods, budgets, ranks, limits, lengths, entries);
     }
+    hand(made, values)
 }
 
 // How many there are, or one more than a sheet has places for.
@@ -450,15 +452,11 @@ pub extern "C" fn bellkettle_write(
         entries,
     };
     let s = sheet_from(edition, &tasks, &chains);
-    match sheet::write(s, out) {
-        Ok(size) => hand(Ok(size as u32), values),
-        Err(r) => refuse(r, values),
-    }
+    hand(sheet::write(s, out).map(|size| size as u32), values)
 }
 
-// The replay of a log (document 02, P6). Its bytes are lent beside the sheet's.
-
-// Which file is refused, 0 the sheet and 1 the log: once the sheet is read 1 and 9 are the log's.
+// Which file a refusal of a replay is about, 0 the sheet and 1 the log: once the sheet is read, bytes that end too early and that follow the
+// last are the log's. Whether it is read is a Bool, as the promise has it (Numbers.file_of).
 fn file_of(read: bool, r: Refusal) -> u32
     ensures { result ≡ file_of read (number_in r) }
 {
@@ -468,17 +466,18 @@ fn file_of(read: bool, r: Refusal) -> u32
     }
 }
 
-// A refusal, and behind the value that comes with it the file.
-fn refuse_in(read: bool, r: Refusal, values: &mut [i64]) -> u8
-    ensures { Returned (with_file read (refusal r)) result values.old values.new }
+// A refusal, and behind the value that comes with it the file. One function over this and `refuse` would take what stands behind as a closure,
+// and be longer than both.
+fn refuse_in(read: bool, refused: Refusal, values: &mut [i64]) -> u8
+    ensures { Returned (with_file read (refusal refused)) result values.old values.new }
 {
-    if let Some(value) = r.value() {
-        store(&[value, file_of(read, r)].map(i64::from), values);
+    if let Some(value) = refused.value() {
+        store(&[value, file_of(read, refused)].map(i64::from), values);
     }
-    r.number()
+    refused.number()
 }
 
-// Does the log agree with the sheet, and what delays does it show?
+// Does the log agree with the sheet, and what delays does it show (document 02, P6)? Not by `hand`, whose refusals come without a file.
 #[unsafe(no_mangle)]
 pub extern "C" fn bellkettle_replay(
     sheet: &[u8],
@@ -500,9 +499,8 @@ pub extern "C" fn bellkettle_replay(
     }
 }
 
-// The tell-tale (document 02, P13). Its record is a struct of the program in C, which lends it where it stands.
-
-// A reading begins, where none is under way.
+// A reading begins, where none is under way (the tell-tale, document 02, P13). The record is a struct of the program in C, which lends it
+// where it stands.
 #[unsafe(no_mangle)]
 pub extern "C" fn bellkettle_begin(kept: &mut Record, counter: u32)
     ensures { RecordBegun kept.old counter kept.new }

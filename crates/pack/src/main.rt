@@ -8,7 +8,7 @@ use std::fmt;
 use text::Fault;
 
 // Why a text is no sheet.
-#[derive(Clone, Copy, Drop)]
+#[derive(Clone, Copy)]
 enum Failure {
     Text(Fault),
     Sheet(Refusal),

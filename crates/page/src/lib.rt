@@ -54,7 +54,7 @@ pub struct ChainLine(pub Chain);
 impl fmt::Display for ChainLine {
     fn fmt<W: fmt::Write>(&self, f: &mut fmt::Formatter<W>) -> fmt::Result {
         write!(f, "chain")?;
-        for task in self.0.entries.iter().take(self.0.length as usize) {
+        for task in self.0.tasks() {
             write!(f, " {task}")?;
         }
         writeln!(f)

@@ -2,7 +2,8 @@
 // task that comes with it, 0 for none; the call's values; the lent memory. Every number is a word of four bytes, the most significant
 // first.
 use answers::Refusal;
-use chain::Summary;
+use chain::{Figure, Summary};
+use lower::{Difference, Which};
 use night::Replayed;
 use recurrence::Bounds;
 use schedule::{Size, Totals};
@@ -10,7 +11,7 @@ use sheet::{Chain, Sheet};
 use telltale::Record;
 use theory::Task;
 
-// The bytes of an answer, as many as the buffer has places for, and how many they are.
+// The bytes of an answer, as many as the buffer has places for, and how many they are. Memory is fixed here as in the library: no Vec.
 #[derive(Drop)]
 pub struct Answer<'a> {
     out: &'a mut [u8; 65536],
@@ -185,15 +186,17 @@ impl Put for Bounds {
     }
 }
 
+impl Put for Figure {
+    fn put(self, answer: &mut Answer<'_>) {
+        answer.words(&[self.ticks, self.release]);
+    }
+}
+
 impl Put for Summary {
     fn put(self, answer: &mut Answer<'_>) {
         self.totals.put(answer);
-        answer.words(&[
-            self.sampling.ticks,
-            self.sampling.release,
-            self.sampling_bound,
-        ]);
-        answer.words(&[self.worst, self.bound]);
+        self.sampling.put(answer);
+        answer.words(&[self.sampling_bound, self.worst, self.bound]);
         self.margin.put(answer);
     }
 }
@@ -207,7 +210,29 @@ impl Put for Replayed {
             None => answer.words(&[0, 0, 0]),
         }
         self.breaking.put(answer);
-        answer.words(&[self.figure.ticks, self.figure.release]);
+        self.figure.put(answer);
+    }
+}
+
+// The numbers of both are the protocol's, and so do not go by the order in which crate `lower` lists them.
+impl Put for Which {
+    fn put(self, answer: &mut Answer<'_>) {
+        answer.word(match self {
+            Which::Old => 0,
+            Which::New => 1,
+        });
+    }
+}
+
+impl Put for Difference {
+    fn put(self, answer: &mut Answer<'_>) {
+        answer.word(match self {
+            Difference::OldOnly => 0,
+            Difference::NewOnly => 1,
+            Difference::Period => 2,
+            Difference::Budget => 3,
+            Difference::Rank => 4,
+        });
     }
 }
 

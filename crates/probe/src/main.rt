@@ -7,10 +7,10 @@ mod answer;
 mod request;
 mod run;
 
-use answer::Answer;
+use answer::{Answer, Put};
 use answers::Refusal;
 use chain::{Suite, TaskFigures};
-use lower::{Difference, Obstacle, Which};
+use lower::Obstacle;
 use night::Replayed;
 use recurrence::{QuickBound, QuickSuite};
 use request::{Form, Request, fields, fill, sheet_in};
@@ -25,41 +25,22 @@ struct Lent<'a> {
     table: &'a mut [u32],
 }
 
-fn which_number(which: Which) -> u32 {
-    match which {
-        Which::Old => 0,
-        Which::New => 1,
-    }
-}
-
-fn difference_number(difference: Difference) -> u32 {
-    match difference {
-        Difference::OldOnly => 0,
-        Difference::NewOnly => 1,
-        Difference::Period => 2,
-        Difference::Budget => 3,
-        Difference::Rank => 4,
-    }
-}
-
 // What was found, the sheet or the index, and what differs there; after a refusal the sheet.
 fn put_comparison(answer: &mut Answer<'_>, found: Result<(), Obstacle>) {
-    let numbers: [u32; 3] = match found {
-        Ok(()) => [0, 0, 0],
-        Err(Obstacle::Edition(which)) => [1, which_number(which), 0],
-        Err(Obstacle::Chain) => [2, 0, 0],
-        Err(Obstacle::Task(i, difference)) => [3, u32::from(i), difference_number(difference)],
+    match found {
+        Ok(()) => answer.given([0u32; 3]),
+        Err(Obstacle::Edition(which)) => answer.given((1u32, (which, 0u32))),
+        Err(Obstacle::Chain) => answer.given([2u32, 0, 0]),
+        Err(Obstacle::Task(i, difference)) => answer.given((3u32, (u32::from(i), difference))),
         Err(Obstacle::Refused(which, r)) => {
             answer.refused(r);
-            answer.word(which_number(which));
-            return;
+            which.put(answer);
         }
-    };
-    answer.given(numbers);
+    }
 }
 
-// The calls, by their numbers. A number that is none of these answers no values.
-
+// A call of a sheet by its number; one that is none of these answers no values. The numbers are the protocol's (model/src/probe.rs): an enum
+// of them would be a second table of as many rows.
 fn of_sheet(q: Request, s: Sheet, lent: &mut Lent<'_>, answer: &mut Answer<'_>) {
     // The number of the chain, of which a request has the last eight bits.
     let chain = (q.second % 256) as u8;
@@ -153,8 +134,7 @@ fn put_lent(answer: &mut Answer<'_>, lent: &Lent<'_>) {
     }
 }
 
-// Requests, turn by turn. A turn answers whether it was served: the input's end, and a request that is too large, end the run.
-
+// A turn answers whether it was served: the input's end, and a request that is too large, end the run.
 fn serve(q: Request, input: &[u8], lent: &mut Lent<'_>, out: &mut [u8; 65536]) -> bool {
     let mut answer = Answer::new(out);
     of_call(q, input, lent, &mut answer);
@@ -178,18 +158,18 @@ fn turn(sheet: &mut [u8], content: &mut [u8], table: &mut [u32], out: &mut [u8; 
     let Some(table) = table.get_mut(..q.room) else {
         return false;
     };
-    if io::read_full(0, &mut *input) < q.sheet {
+    if io::read_full(0, input) < q.sheet {
         return false;
     }
-    if io::read_full(0, &mut *bytes) < q.content {
+    if io::read_full(0, bytes) < q.content {
         return false;
     }
-    fill(&mut *table, &*bytes);
+    fill(table, bytes);
     serve(q, input, &mut Lent { bytes, table }, out)
 }
 
-// The sheet's buffer holds the longest log too. The content and the table are so large that an answer with either still fits in a large buffer. Turns are counted so that the
-// loop is known to end; no run takes so many.
+// The sheet's buffer holds the longest log too. The content and the table are so large that an answer with either still fits in a large
+// buffer. Turns are counted so that the loop is known to end; no run takes so many.
 fn main() {
     let mut sheet = io::large_buffer();
     let mut content = [0u8; 65000];

@@ -16,8 +16,7 @@ pub enum Form {
 // A call by its number; the form of its sheet, 0 for bytes and any other for the fields in memory; three numbers, of which a call on a
 // sheet takes the first for a release or a limit and the second for the chain; how many entries of the table it is lent. Then come so many
 // bytes of the sheet, of a replay with the log behind it and the first number for where that begins, and so many of content: the bytes that
-// the call is lent, or the words that a lent table holds over and over. A call on two
-// sheets has the second in the content, field by field.
+// the call is lent, or the words that a lent table holds over and over. A call on two sheets has the second in the content, field by field.
 #[derive(Clone, Copy)]
 pub struct Request {
     pub call: u32,

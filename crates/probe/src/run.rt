@@ -3,17 +3,31 @@
 use super::answer::{Answer, Put};
 use super::request::{byte, word};
 use answers::Refusal;
+use std::slice::Iter;
 use telltale::{Record, Stamped};
 
-// What a call answers and leaves; a begin, which answers nothing, counts as 0 ticks.
-fn made(was: Record, kind: u8, counter: u32) -> Stamped {
-    if kind == 0 {
-        return Stamped {
+enum Call {
+    Begin(u32),
+    Stamp(u32),
+}
+
+// What a call answers and leaves; a begin, which answers nothing, counts as 0 ticks. Through the calls that take a record by value those that
+// are lent one are reached too.
+fn made(was: Record, call: Call) -> Stamped {
+    match call {
+        Call::Begin(counter) => Stamped {
             answer: Ok(0),
             left: telltale::after_begin(was, counter),
-        };
+        },
+        Call::Stamp(counter) => telltale::after_stamp(was, counter),
     }
-    telltale::after_stamp(was, counter)
+}
+
+fn read(input: &mut Iter<'_, u8>) -> Call {
+    match byte(input) {
+        0 => Call::Begin(word(input)),
+        _ => Call::Stamp(word(input)),
+    }
 }
 
 fn put_elapsed(answer: &mut Answer<'_>, elapsed: Result<u32, Refusal>) {
@@ -25,10 +39,8 @@ fn put_elapsed(answer: &mut Answer<'_>, elapsed: Result<u32, Refusal>) {
 
 pub fn put_run(answer: &mut Answer<'_>, was: Record, calls: &[u8]) {
     let mut kept = was;
-    for call in calls.chunks_exact(5) {
-        let mut input = call.iter();
-        let kind = byte(&mut input);
-        let end = made(kept, kind, word(&mut input));
+    for bytes in calls.chunks_exact(5) {
+        let end = made(kept, read(&mut bytes.iter()));
         put_elapsed(answer, end.answer);
         kept = end.left;
         kept.put(answer);

@@ -25,7 +25,7 @@ fn print_replayed(out: &mut File, replayed: Replayed) -> fmt::Result {
 }
 
 // A refusal, behind the file that it is about.
-#[derive(Clone, Copy, Drop)]
+#[derive(Clone, Copy)]
 enum Failure {
     Sheet(Refusal),
     Log(Refusal),

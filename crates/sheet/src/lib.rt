@@ -36,6 +36,7 @@ impl Chain {
 }
 
 // `count` tasks and a suite of so many chains. An old sheet is edition 1: it uses chain one, and neither `suite` nor a limit.
+// (A number and no enum: `JudgePromise` holds of every edition in memory, and C hands any. Places with a count beside: there is no heap.)
 #[derive(Clone, Copy, Default, PartialEq, Eq)]
 pub struct Sheet {
     pub tasks: [Task; 16],
@@ -45,7 +46,8 @@ pub struct Sheet {
     pub suite: u8,
 }
 
-// A field of the sheet; those of a task and of a chain with their index.
+// A field of the sheet; those of a task and of a chain with their index. (What three functions ask of it, `Placed`, is the bound of that index;
+// a field that carries it would have to state it for each of its ten cases.)
 #[derive(Clone, Copy)]
 enum Field {
     Mark,
@@ -87,8 +89,16 @@ const HEAD_BITS: u32 = MARKED_BITS + COUNT_BITS;
 
 const TASK_BITS: u32 = PERIOD_BITS + BUDGET_BITS + RANK_BITS;
 
-// The longest sheet: sixteen tasks, and eight chains of sixteen entries.
-const MOST_BYTES: usize = 178;
+// The documents' limits, and what follows from them: the longest sheet has sixteen tasks, and eight chains of sixteen entries.
+pub const MOST_TASKS: u32 = 16;
+
+pub const MOST_CHAINS: u32 = 8;
+
+pub const MOST_PERIOD: u32 = 100000;
+
+pub const MOST_LIMIT: u32 = 4000000;
+
+pub const MOST_BYTES: usize = 178;
 
 // The limit of an old sheet's chain, in a conversion and in a report.
 pub const OLD_LIMIT: u32 = 1000;
@@ -117,15 +127,15 @@ fn value_of(s: &Sheet, f: Field) -> u32
 {
     match f {
         Field::Mark => if s.edition == 1 { 0 } else { 31 },
-        Field::Edition => s.edition as u32,
-        Field::Count => s.count as u32,
+        Field::Edition => u32::from(s.edition),
+        Field::Count => u32::from(s.count),
         Field::Period(i) => s.tasks[i as usize].period,
         Field::Budget(i) => s.tasks[i as usize].budget,
-        Field::Rank(i) => s.tasks[i as usize].rank as u32,
-        Field::Chains => s.suite as u32,
+        Field::Rank(i) => u32::from(s.tasks[i as usize].rank),
+        Field::Chains => u32::from(s.suite),
         Field::Limit(c) => s.chains[c as usize].limit,
-        Field::Length(c) => s.chains[c as usize].length as u32,
-        Field::Entry(c, i) => s.chains[c as usize].entries[i as usize] as u32,
+        Field::Length(c) => u32::from(s.chains[c as usize].length),
+        Field::Entry(c, i) => u32::from(s.chains[c as usize].entries[i as usize]),
     }
 }
 
@@ -133,7 +143,7 @@ fn value_of(s: &Sheet, f: Field) -> u32
 fn chains_of(s: &Sheet) -> u8
     ensures { result ≡ chains (kind_of (value s.now)) (value s.now) }
 {
-    if s.edition == 1 { 1 } else { s.suite.min(8) }
+    chain_count(*s).min(8)
 }
 
 fn opening_of(s: &Sheet) -> Field
@@ -246,29 +256,23 @@ fn judge_field(s: &Sheet, f: Field, at: u32) -> Result<(), Refusal>
     requires { Placed f }
     ensures { told result ≡ with_offset at (judged (kind_of (value s.now)) (value s.now) f) }
 {
+    let v = value_of(s, f);
     match f {
         Field::Mark => Ok(()),
-        Field::Edition => ranged(Refusal::Edition, 2, 2, s.edition as u32),
-        Field::Count => ranged(Refusal::Count(at), 1, 16, s.count as u32),
-        Field::Period(i) => ranged(Refusal::Period(at), 1, 100000, s.tasks[i as usize].period),
-        Field::Budget(i) => {
-            let task = s.tasks[i as usize];
-            ranged(Refusal::Budget(at), 1, task.period, task.budget)
-        }
+        Field::Edition => ranged(Refusal::Edition, 2, 2, v),
+        Field::Count => ranged(Refusal::Count(at), 1, MOST_TASKS, v),
+        Field::Period(_) => ranged(Refusal::Period(at), 1, MOST_PERIOD, v),
+        Field::Budget(i) => ranged(Refusal::Budget(at), 1, s.tasks[i as usize].period, v),
         Field::Rank(i) => judge_rank(&s.tasks, i, at),
-        Field::Chains => ranged(Refusal::Chain, 1, 8, s.suite as u32),
-        Field::Limit(c) => ranged(Refusal::Limit, 0, 4000000, s.chains[c as usize].limit),
-        Field::Length(c) => ranged(
-            Refusal::Length(at),
-            1,
-            s.count as u32,
-            s.chains[c as usize].length as u32,
-        ),
+        Field::Chains => ranged(Refusal::Chain, 1, MOST_CHAINS, v),
+        Field::Limit(_) => ranged(Refusal::Limit, 0, MOST_LIMIT, v),
+        Field::Length(_) => ranged(Refusal::Length(at), 1, u32::from(s.count), v),
         Field::Entry(c, i) => judge_entry(s.count, &s.chains[c as usize].entries, i, at),
     }
 }
 
-// The fields in order, in so many bytes; the bit after the last one.
+// The fields in order, in so many bytes; the bit after the last one. (No `for`, here and in `put_fields`: an iterator over the fields would
+// state which are left, and would be longer than both loops.)
 fn judge_fields(s: &Sheet, len: usize) -> Result<u32, Refusal>
     ensures { told result ≡ fields_judged (len * 8) (value s.now) }
 {
@@ -346,13 +350,14 @@ fn task_at(bytes: &[u8], at: u32) -> Task
     }
 }
 
+// (A loop, here and in `entries_at`: the closure of `array::from_fn` would have the test and the blank place as branches, and is no plainer.)
 fn tasks_at(bytes: &[u8], at: u32, n: u8) -> [Task; 16]
     requires { at ≤ 1000 }
     ensures { result ≡ places 16 none n (λ i. task_at (unpack bytes.now) (at + task_bits * i)) }
 {
     let mut tasks = [Task::default(); 16];
     for i in 0..n.min(16) {
-        tasks[i as usize] = task_at(bytes, at + TASK_BITS * i as u32);
+        tasks[i as usize] = task_at(bytes, at + TASK_BITS * u32::from(i));
     }
     tasks
 }
@@ -363,7 +368,7 @@ fn entries_at(bytes: &[u8], at: u32, m: u8) -> [u8; 16]
 {
     let mut entries = [0u8; 16];
     for i in 0..m.min(16) {
-        entries[i as usize] = small(bytes, at + ENTRY_BITS * i as u32, ENTRY_BITS);
+        entries[i as usize] = small(bytes, at + ENTRY_BITS * u32::from(i), ENTRY_BITS);
     }
     entries
 }
@@ -392,7 +397,7 @@ fn chains_at(bytes: &[u8], width: u32, at: u32, k: u8) -> [Chain; 8]
     for c in 0..k.min(8) {
         let chain = chain_at(bytes, width, begin);
         chains[c as usize] = chain;
-        begin += width + LENGTH_BITS + ENTRY_BITS * chain.length.min(16) as u32;
+        begin += width + LENGTH_BITS + ENTRY_BITS * u32::from(chain.length.min(16));
     }
     chains
 }
@@ -407,13 +412,14 @@ fn edition_at(bytes: &[u8]) -> u8
     }
 }
 
+// (One function with `spell_old` would branch on the mark five times: for count, edition, suite, the first chain's place and the limits' width.)
 fn spell_new(bytes: &[u8]) -> Sheet
     ensures { result ≡ sheet_spelt (unpack bytes.now) new }
 {
     let edition = edition_at(bytes);
     let count = small(bytes, MARKED_BITS, COUNT_BITS);
     let tasks = tasks_at(bytes, HEAD_BITS, count);
-    let at = HEAD_BITS + TASK_BITS * count.min(16) as u32;
+    let at = HEAD_BITS + TASK_BITS * u32::from(count.min(16));
     let suite = small(bytes, at, CHAINS_BITS);
     let chains = chains_at(bytes, LIMIT_BITS, at + CHAINS_BITS, suite);
     Sheet {
@@ -430,7 +436,7 @@ fn spell_old(bytes: &[u8]) -> Sheet
 {
     let count = small(bytes, 0, COUNT_BITS);
     let tasks = tasks_at(bytes, COUNT_BITS, count);
-    let at = COUNT_BITS + TASK_BITS * count.min(16) as u32;
+    let at = COUNT_BITS + TASK_BITS * u32::from(count.min(16));
     let chains = chains_at(bytes, 0, at, 1);
     Sheet {
         tasks,
@@ -451,7 +457,8 @@ fn spell(bytes: &[u8]) -> Sheet
     spell_old(bytes)
 }
 
-// What follows the last field.
+// What follows the last field. (Clocklog has one too. As a call it would have to answer every end, and the bit behind the greatest end is no
+// 32-bit number, so it would ask something of its caller, which no `pub fn` may.)
 fn judge_tail(bytes: &[u8], end: u32) -> Result<(), Refusal>
     requires { end ≤ 65535 }
     ensures { told result ≡ tail_of bytes.now end }
@@ -534,14 +541,15 @@ pub fn chain_count(s: Sheet) -> u8
     if s.edition == 1 { 1 } else { s.suite }
 }
 
-// 17 for a chain number that the sheet lacks; an old sheet has chain 1 alone.
+// `Refusal::Chain` for a number of a chain that the sheet lacks; an old sheet has chain 1 alone.
 pub fn numbered(s: Sheet, number: u8) -> Result<(), Refusal>
     ensures { NumberedPromise s number result }
 {
-    ranged(Refusal::Chain, 1, chain_count(s) as u32, number as u32)
+    let most = u32::from(chain_count(s));
+    ranged(Refusal::Chain, 1, most, u32::from(number))
 }
 
-// The chain of a number, or 17 where the sheet lacks it.
+// The chain of a number, or `Refusal::Chain` where the sheet lacks it.
 pub fn chain_of(s: Judged, number: u8) -> Result<Chain, Refusal>
     ensures { ChainPromise s number result }
 {

@@ -23,7 +23,7 @@ pub struct Record {
 
 // What a stamp answers, its elapsed ticks or its refusal, and the record that it leaves. (With it stay `after_begin` and `after_stamp`, beside
 // `begin` and `stamp`: docs/CONTRACTS.md names both as calls for who holds a record by value.)
-#[derive(Clone, Copy)]
+#[derive(Clone, Copy, PartialEq, Eq)]
 pub struct Stamped {
     pub answer: Result<u32, Refusal>,
     pub left: Record,

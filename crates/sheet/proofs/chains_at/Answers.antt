@@ -25,7 +25,7 @@ loop-c-preserved c =
     let bs = unpack a.bytes.now in
     let f : ℕ → Chain = λ j. chain_spelt bs a.width (chain_from bs a.width a.at j) in
     let is = c.chain_at-chain.ensures ∙ ap (chain_spelt bs a.width) i.from in
-    let m = c.min.ensures ∙ ap (λ t. min t.length 16) is in
+    let m = c.from.ensures ∙ c.min.ensures ∙ ap (λ t. min t.length 16) is in
     record {
       few = omega (arith, m, i.few);
       from = omega (arith, m, i.from, chain_from_step bs a.width a.at l.c);

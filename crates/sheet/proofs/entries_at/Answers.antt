@@ -16,7 +16,7 @@ pub loop-i-preserved : goal.loop-i-preserved
 loop-i-preserved c =
     let l = c.loop-i in
     let f : ℕ → ℕ = λ j. number (unpack c.args.bytes.now) (c.args.at + 4 * j) 4 in
-    ap₂ (λ x y. set x l.i y) l.invariant c.small.ensures ∙ places_set 16 0 f l.i (omega (arith, c.min-i-end.ensures))
+    ap₂ (λ x y. set x l.i y) l.invariant (c.small.ensures ∙ ap f c.from.ensures) ∙ places_set 16 0 f l.i (omega (arith, c.min-i-end.ensures))
 
 pub returns : goal.returns
 returns c =

@@ -15,7 +15,7 @@ returns c =
     let bs = unpack c.args.bytes.now in
     let n-is : c.small-count.result ≡ number bs 9 5 = c.small-count.ensures in
     let n : ℕ = min (number bs 9 5) 16 in
-    let w-is = c.min.ensures ∙ ap (λ k. min k 16) n-is in
+    let w-is = c.from.ensures ∙ c.min.ensures ∙ ap (λ k. min k 16) n-is in
     let suite-is = c.small-suite.ensures ∙ ap (λ k. number bs (14 + 42 * k) 4) w-is in
     let f : ℕ → Chain = λ j. chain_spelt bs 22 (chain_from bs 22 (14 + 42 * n + 4) j) in
     sheet_is (c.tasks_at-tasks.ensures ∙ ap (λ k. places 16 none k (λ i. task_at bs (14 + 42 * i))) n-is)

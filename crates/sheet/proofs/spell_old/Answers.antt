@@ -14,7 +14,7 @@ unfolding number
 returns c =
     let bs = unpack c.args.bytes.now in
     let n-is : c.small-count.result ≡ number bs 0 5 = c.small-count.ensures in
-    let w-is = c.min.ensures ∙ ap (λ k. min k 16) n-is in
+    let w-is = c.from.ensures ∙ c.min.ensures ∙ ap (λ k. min k 16) n-is in
     sheet_is (c.tasks_at-tasks.ensures ∙ ap (λ k. places 16 none k (λ i. task_at bs (5 + 42 * i))) n-is)
-    (c.chains_at-chains.ensures ∙ ap (λ x. places 8 unused 1 (λ j. chain_spelt bs 0 (chain_from bs 0 x j))) {x = 5 + 42 * c.min.result} {y = 5 + 42 * min (number bs 0 5) 16 + 0} (omega (arith, w-is)))
+    (c.chains_at-chains.ensures ∙ ap (λ x. places 8 unused 1 (λ j. chain_spelt bs 0 (chain_from bs 0 x j))) {x = 5 + 42 * c.from.result} {y = 5 + 42 * min (number bs 0 5) 16 + 0} (omega (arith, w-is)))
     refl n-is refl

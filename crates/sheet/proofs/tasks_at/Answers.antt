@@ -19,7 +19,7 @@ pub loop-i-preserved : goal.loop-i-preserved
 loop-i-preserved c =
     let l = c.loop-i in
     let f : ℕ → Task = λ j. task_at (unpack c.args.bytes.now) (c.args.at + task_bits * j) in
-    ap₂ (λ x y. set x l.i y) l.invariant c.task_at.ensures ∙ places_set 16 none f l.i (omega (arith, c.min-i-end.ensures))
+    ap₂ (λ x y. set x l.i y) l.invariant (c.task_at.ensures ∙ ap f c.from.ensures) ∙ places_set 16 none f l.i (omega (arith, c.min-i-end.ensures))
 
 pub returns : goal.returns
 returns c =

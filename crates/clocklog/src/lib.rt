@@ -113,6 +113,8 @@ impl Record<'_> {
     }
 
     // What it says, behind a counter. "The counter rolls over past its top value and carries on from zero."
+    // (Always inlined: as a call it costs a replay 52 instructions a record more, beside 328.)
+    #[inline(always)]
     fn entry_after(&self, last: u32) -> Entry
         requires { last ≡ before self.now.log.now self.now.r }
         ensures { EntryPromise self.now.log.now self.now.r result }

@@ -79,6 +79,20 @@ module _ (s : Sheet) (sound : Sound s) where
       found_replays accepted (first_of one) (rest_of one) (chain_known _ sound chain_one has_one) bytes (count bytes) x
       (subst (λ n. FoundIn (tasks_of s) (first_of one) (rest_of one) bytes n x) ne f)
 
+  -- The same of tasks and entries that are lent.
+  module _ (ts : List Task) (chain : List ℕ) (te : ts ≡ tasks_of s) (ce : chain ≡ one) where
+    pub lent_few : length ts ≤ 16
+    lent_few = omega (arith, ap (length {A = Task}) te, tasks_length _ sound, sound.count_most)
+
+    pub lent_first : first_of chain < length ts
+    lent_first = omega (arith, ap first_of ce, ap (length {A = Task}) te, tasks_length _ sound, first_known)
+
+    pub lent_replays : Accepted (tasks_of s) → (bytes : List ℕ) (n : ℕ) (x : Found) → n ≡ count bytes
+        → FoundIn ts (first_of chain) (rest_of chain) bytes n x → Replays (tasks_of s) (first_of one) (rest_of one) (records bytes) x.paths x.longest x.breaking
+    lent_replays accepted bytes n x ne f =
+        sheet_replays accepted bytes n x ne
+        (subst (λ ts. FoundIn ts (first_of one) (rest_of one) bytes n x) te (subst (λ c. FoundIn ts (first_of c) (rest_of c) bytes n x) ce f))
+
 -- A log that is judged fine names tasks of the sheet, and keeps to the limit of time.
 pub log_sane : (bytes : List ℕ) (tasks n : ℕ) → log_judged bytes tasks ≡ fine → n ≡ count bytes → Sane bytes tasks n
 log_sane bytes tasks n h e = record {

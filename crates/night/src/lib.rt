@@ -314,10 +314,9 @@ fn replayed(s: Judged, log: &[u8], figure: Figure) -> Replayed
     requires log_fine { log_judged log.now s.sheet.count ≡ fine }
     ensures { (result.records ≡ count log.now) × (result.figure ≡ figure) × Follows s.sheet log.now result }
 {
-    let sheet = s.sheet;
-    let tasks = &sheet.tasks[..sheet.count as usize];
-    let one = sheet.chains[0];
-    let chain = &one.entries[..one.length as usize];
+    let tasks = s.tasks();
+    let one = s.sheet.chains[0];
+    let chain = one.tasks();
     let n = clocklog::count(log);
     let found = run_log(tasks, chain, log, n);
     Replayed {

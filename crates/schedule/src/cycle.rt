@@ -77,6 +77,7 @@ impl<'a> Cycle<'a> {
         ensures tasks { IfOk result (λ cycle. cycle.tasks.now ≡ tasks_of s.now) }
     {
         sheet::judge(*s)?;
+        // Of the sheet that is lent: what `Judged::tasks` lends would be of a copy made here, which ends with this call.
         let tasks = &s.tasks[..s.count as usize];
         let hyperperiod = hyperperiod(tasks).ok_or(Refusal::Hyperperiod)?;
         let jobs = job_count(tasks, hyperperiod);
@@ -191,11 +192,11 @@ impl<'a> Cycle<'a> {
         ensures { result ≡ places 16 0 (length self.now.tasks.now) (task_response self.now.tasks.now) }
     {
         let mut each = [0u32; 16];
-        let mut from = 0usize;
+        let mut left = table;
         for i in 0..self.tasks.len() {
-            let end = from + self.jobs_of(i);
-            each[i] = arith::greatest(&table[from..end]);
-            from = end;
+            let (row, rest) = left.split_at(self.jobs_of(i));
+            each[i] = arith::greatest(row);
+            left = rest;
         }
         each
     }

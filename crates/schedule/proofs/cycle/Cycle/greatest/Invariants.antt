@@ -1,4 +1,4 @@
-use Rattle.std.proofs.Common.{◌≡◌}
+use Rattle.std.proofs.Common.{◌≡◌, drop}
 use Rattle.arith.specs.Ranges.{sum}
 use Rattle.theory.specs.Model.Responses.{jobs, task_response}
 use Rattle.sheet.specs.Calls.{places}
@@ -7,4 +7,4 @@ use Rattle.schedule.proofs.cycle.Cycle.greatest.Given as goal
 abbrev pub invariant-loop-i : goal.invariant-loop-i
 invariant-loop-i l =
     let ts = l.self.tasks.now in
-    (l.from ≡ sum l.i (jobs ts)) × (l.each ≡ places 16 0 l.i (task_response ts))
+    (l.left ≡ drop (sum l.i (jobs ts)) l.table) × (l.each ≡ places 16 0 l.i (task_response ts))

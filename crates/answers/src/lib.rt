@@ -47,7 +47,7 @@ pub enum Refusal {
 }
 
 impl Refusal {
-    // "A refusal returns its number".
+    // "A refusal returns its number". (The cases carry values, so no cast gives it.)
     pub fn number(self) -> u8
         ensures { NumberPromise self result }
     {

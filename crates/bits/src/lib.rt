@@ -44,7 +44,7 @@ fn with_bit(x: u8, e: usize, b: bool) -> u8
     if b { x | weight } else { x & !weight }
 }
 
-// One bit put at a place; past the end it is dropped.
+// One bit put at a place; past the end it is dropped. (Not by `get_mut`: what it leaves of a slice a proof knows by its length alone.)
 fn put_bit(out: &mut [u8], at: usize, b: bool)
     ensures { unpack out.new ≡ set (unpack out.old) at b }
 {

@@ -316,7 +316,8 @@ pub fn judged(s: Sheet) -> Result<Judged, Refusal>
     Ok(Judged { sheet: s })
 }
 
-// The fields of a sheet in order, from the first bit on.
+// The fields of a sheet in order, from the first bit on. (One walk for this and `judge_fields` would take a closure that writes, and one that may
+// refuse, under a contract for both that is longer than the walk.)
 fn put_fields(out: &mut [u8], s: &Sheet)
     ensures { unpack out.new ≡ sets (unpack out.old) 0 (packed s.now) }
 {

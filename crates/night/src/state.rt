@@ -1,5 +1,6 @@
 // The state of the pass over a log: of the tasks, and of the places of the chain. The methods stand in lib.rt: their clauses cite
 // specs/Conditions.antt, which names these structs, and a file with ghost fields must not cite what names its structs.
+// Arrays of sixteen beside a slice: no heap is a rule of the project.
 ghost use Rattle.std.specs.Prelude.{◌≡◌, ◌≤◌, ◌<◌, length, Some};
 
 use super::Longest;

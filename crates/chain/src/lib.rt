@@ -20,11 +20,8 @@ use answers::Refusal;
 use filled::Filled;
 use named::Named;
 use schedule::TaskResponses;
-use sheet::Sheet;
 use sheet::sound::Judged;
-
-// "margin limit 0 to 4,000,000"
-const MOST_LIMIT: u32 = 4000000;
+use sheet::{MOST_LIMIT, Sheet};
 
 // "The margin call without a limit should use 500 ticks." (document 02, P7)
 const DEFAULT_LIMIT: u32 = 500;

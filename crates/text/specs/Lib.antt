@@ -3,6 +3,7 @@ pub mod Shown
 pub mod Words
 pub mod Grammar
 pub mod Run
+pub mod FaultText
 pub mod Calls
 pub mod Promises
 -- What the functions do for each other, and the laws.

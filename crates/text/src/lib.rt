@@ -3,11 +3,12 @@
 // (specs/Run.antt). That what is shown says the sheet is proved of them (specs/RoundTrip.antt).
 #![tactic(auto)]
 
-ghost use Rattle.std.specs.Prelude.{◌≡◌, List, ◌++◌, ℕ, ◌+◌, ◌≤◌, min, length, set, take};
+ghost use Rattle.std.specs.Prelude.{◌≡◌, List, ◌++◌, ℕ, ◌+◌, ◌≤◌, min, length, set, take, Some};
 ghost use Rattle.text.specs.Shown.{numeral, task_line, task_lines, entry_words, limit_words, chain_line, chain_lines, chain_count, text_of};
 ghost use Rattle.text.specs.Words.{ends, word, digit, name_byte, every, number, keyword, index, says};
 ghost use Rattle.text.specs.Grammar.{missing, fresh, wanting, with_edition, task_in, with_task, task_more, chain_in, with_chain, chain_more, opened, next_task, next_chain, at_edition, at_period, at_budget, ranked, at_rank, repeated, longer, at_entry, at_limit, at_limit_number, step, line_end, text_end, typed};
 ghost use Rattle.text.specs.Run.{place_after, begins, turn, named, run, nameless, faulty, placed, located};
+ghost use Rattle.text.specs.FaultText.{fault_text};
 ghost use Rattle.text.specs.Conditions.{Puts, names_of};
 ghost use Rattle.text.specs.Promises.{ShowPromise, ParsePromise, NumberPromise};
 ghost use Rattle.text.specs.declared.Place.TheVariants.{Between};
@@ -65,6 +66,7 @@ impl Page {
         self.put(b"\n");
     }
 
+    // The tasks' lines. A line has its task's number, so the loop goes by it.
     fn put_tasks(&mut self, s: Sheet)
         ensures { Puts self.old (task_lines s.tasks (min s.count 16)) self.new }
     {
@@ -220,17 +222,21 @@ impl Wrong {
 
 // `mistake` or `refused` and the number, and then the place.
 impl fmt::Display for Fault {
+    ghost output = { λ fault. Some (fault_text fault) };
+
     fn fmt<W: fmt::Write>(&self, f: &mut fmt::Formatter<W>) -> fmt::Result {
         let number = self.wrong.number();
-        if number < 100 {
-            write!(f, "mistake {number}")?;
-        } else {
-            let refusal = number - 100;
-            write!(f, "refused {refusal}")?;
+        match self.wrong {
+            Wrong::Missing(_)
+            | Wrong::NameTwice
+            | Wrong::NameUnknown
+            | Wrong::RankTooGreat
+            | Wrong::LimitInEditionOne
+            | Wrong::ChainInEditionOne
+            | Wrong::TooLong => write!(f, "mistake {number}")?,
+            _ => write!(f, "refused {}", number - 100)?,
         }
-        let line = self.line;
-        let column = self.column;
-        write!(f, " line {line} column {column}")
+        write!(f, " line {} column {}", self.line, self.column)
     }
 }
 
@@ -837,7 +843,7 @@ impl<'a> Reading<'a> {
 }
 
 impl Fault {
-    // What is wrong after so much of a text.
+    // What is wrong after so much of a text, whose bound has its line and column fit 32 bits.
     fn after(front: &[u8], wrong: Wrong) -> Self
         requires { length front.now ≤ 16384 }
         ensures { result ≡ faulty wrong front.now }
@@ -860,6 +866,7 @@ impl Fault {
     }
 }
 
+// Both places of `scan` where something can be wrong go through here: two closures would each have to show the bound.
 fn placed_after(front: &[u8], r: Result<Draft, Wrong>) -> Result<Draft, Fault>
     requires { length front.now ≤ 16384 }
     ensures { result ≡ placed front.now r }

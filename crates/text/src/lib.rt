@@ -747,7 +747,7 @@ impl Place {
 }
 
 // A reading under way: the names that tasks have, where the next byte stands, and what was typed.
-#[derive(Clone, Copy)]
+#[derive(Drop)]
 struct Reading<'a> {
     names: [&'a [u8]; 16],
     place: Place,

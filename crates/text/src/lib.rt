@@ -477,11 +477,7 @@ impl Draft {
 fn has_entry(chain: Chain, entry: u8) -> bool
     ensures { result ≡ repeated chain.entries chain.length entry }
 {
-    chain
-        .entries
-        .iter()
-        .take(usize::from(chain.length))
-        .any(|e| *e == entry)
+    chain.tasks().contains(&entry)
 }
 
 fn with_entry(mut chain: Chain, entry: u8) -> Chain

@@ -6,10 +6,10 @@
 mod answer;
 
 ghost use Rattle.std.specs.Result.{IfOk, IfErr};
-ghost use Rattle.std.specs.Prelude.{◌≡◌, ◌≤◌, ◌<◌, ◌↔◌, All, IsTrue, length, take};
+ghost use Rattle.std.specs.Prelude.{◌≡◌, ◌<◌, ◌↔◌, All, IsTrue, length};
 ghost use Rattle.theory.specs.Model.Schedule.{rank};
 ghost use Rattle.answers.specs.Answers.{given, fine, after, also, told};
-ghost use Rattle.sheet.specs.Tasks.{tasks_of, chain_of};
+ghost use Rattle.sheet.specs.Tasks.{chain_at, chain_of};
 ghost use Rattle.lower.specs.Calls.{acceptance, same_entries, counts, difference_at, way_at, tasks_compared, chains_compared, told_comparison};
 ghost use Rattle.lower.specs.Conditions.{IsRefused};
 ghost use Rattle.lower.specs.Promises.{ComparePromise};
@@ -18,8 +18,9 @@ pub use answer::{Difference, Obstacle, Which};
 use answers::Refusal;
 use sheet::sound::Judged;
 use sheet::{Chain, Sheet};
+use theory::Task;
 
-// A sheet that the full calculation takes, or its refusal. The task that 15 names is the same without a table.
+// A sheet that the full calculation takes, or its refusal. The late task that it names is the same without a table.
 fn accepted(s: Sheet) -> Result<Judged, Refusal>
     ensures { after (told result) (λ x. given x.sheet) ≡ also (acceptance s) (given s) }
 {
@@ -28,96 +29,28 @@ fn accepted(s: Sheet) -> Result<Judged, Refusal>
     Ok(Judged { sheet: s })
 }
 
-// "the same chain one": length and entries
-fn same_chain(old: Judged, new: Judged) -> bool
-    ensures { result ≡ same_entries (chain_of old.sheet 1) (chain_of new.sheet 1) }
+// Chain one, which each sheet that is judged fine has.
+fn chain_one(s: &Judged) -> Chain
+    ensures one { result ≡ chain_at s.now.sheet 1 }
+    ensures whole { length result.entries ≡ 16 }
 {
-    let a = old.sheet.chains[0];
-    let b = new.sheet.chains[0];
-    a.entries[..a.length as usize] == b.entries[..b.length as usize]
+    s.sheet.chains[0]
 }
 
 // Whether each task of the chain outranks task i.
-fn below_chain(s: Judged, i: u8, chain: Chain) -> bool
-    requires i_bound { i < 16 }
-    requires chain_bound { (chain.length ≤ 16) × All (λ entry. entry < 16) (take chain.length chain.entries) }
-    ensures below { IsTrue result ↔ All (λ entry. rank s.sheet.tasks i < rank s.sheet.tasks entry) (take chain.length chain.entries) }
-    ensures whole { length chain.entries ≡ 16 }
+fn below_chain(tasks: &[Task; 16], i: u8, chain: &[u8]) -> bool
+    requires { (i < 16) × All (λ entry. entry < 16) chain.now }
+    ensures { IsTrue result ↔ All (λ entry. rank tasks.now i < rank tasks.now entry) chain.now }
 {
-    let tasks = &s.sheet.tasks;
     let rank = tasks[i as usize].rank;
-    chain.entries[..chain.length as usize]
-        .iter()
-        .all(|&entry| rank < tasks[entry as usize].rank)
+    chain.iter().all(|&entry| rank < tasks[entry as usize].rank)
 }
 
 // Whether the sheet has a task i that is not "ranked below the whole chain" one.
-fn counts(s: Judged, i: u8) -> bool
-    ensures { result ≡ counts s.sheet i }
+fn counts(s: &Judged, i: u8) -> bool
+    ensures { result ≡ counts s.now.sheet i }
 {
-    i < s.sheet.count && !below_chain(s, i, s.sheet.chains[0])
-}
-
-// The first in which index i does not hold "the same period, budget and rank on both".
-fn difference(old: Judged, new: Judged, i: u8) -> Option<Difference>
-    ensures { result ≡ difference_at old.sheet new.sheet i }
-{
-    if old.sheet.count <= i {
-        return Some(Difference::NewOnly);
-    }
-    if new.sheet.count <= i {
-        return Some(Difference::OldOnly);
-    }
-    let was = old.sheet.tasks[i as usize];
-    let is = new.sheet.tasks[i as usize];
-    if was.period != is.period {
-        Some(Difference::Period)
-    } else if was.budget != is.budget {
-        Some(Difference::Budget)
-    } else if was.rank != is.rank {
-        Some(Difference::Rank)
-    } else {
-        None
-    }
-}
-
-// "every index whose task on either sheet is not below it"
-fn way_at(old: Judged, new: Judged, i: u8) -> Option<Difference>
-    ensures { result ≡ way_at old.sheet new.sheet i }
-{
-    if counts(old, i) || counts(new, i) {
-        difference(old, new, i)
-    } else {
-        None
-    }
-}
-
-// The first index that stands in the way.
-fn compare_tasks(old: Judged, new: Judged) -> Result<(), Obstacle>
-    ensures { told_comparison result ≡ tasks_compared old.sheet new.sheet }
-{
-    for i in 0..16 {
-        if let Some(found) = way_at(old, new, i) {
-            return Err(Obstacle::Task(i, found));
-        }
-    }
-    Ok(())
-}
-
-// Two accepted sheets: of edition 2, with the same chain one, and the same in each index that counts.
-fn compare_accepted(old: Judged, new: Judged) -> Result<(), Obstacle>
-    ensures { told_comparison result ≡ chains_compared old.sheet new.sheet }
-{
-    if old.sheet.edition != 2 {
-        return Err(Obstacle::Edition(Which::Old));
-    }
-    if new.sheet.edition != 2 {
-        return Err(Obstacle::Edition(Which::New));
-    }
-    if !same_chain(old, new) {
-        return Err(Obstacle::Chain);
-    }
-    compare_tasks(old, new)
+    i < s.sheet.count && !below_chain(&s.sheet.tasks, i, chain_one(s).tasks())
 }
 
 // One of the two sheets, accepted, or which it is and its refusal.
@@ -128,11 +61,89 @@ fn taken(which: Which, s: Sheet) -> Result<Judged, Obstacle>
     accepted(s).map_err(|refusal| Obstacle::Refused(which, refusal))
 }
 
+// The sheet that was and the sheet that is to be, both accepted.
+#[derive(Clone, Copy)]
+struct Pair {
+    old: Judged,
+    new: Judged,
+}
+
+impl Pair {
+    // "the same chain one": length and entries
+    fn same_chain(&self) -> bool
+        ensures { result ≡ same_entries (chain_of self.now.old.sheet 1) (chain_of self.now.new.sheet 1) }
+    {
+        chain_one(&self.old).tasks() == chain_one(&self.new).tasks()
+    }
+
+    // The first in which index i does not hold "the same period, budget and rank on both".
+    fn difference(&self, i: u8) -> Option<Difference>
+        ensures { result ≡ difference_at self.now.old.sheet self.now.new.sheet i }
+    {
+        if self.old.sheet.count <= i {
+            return Some(Difference::NewOnly);
+        }
+        if self.new.sheet.count <= i {
+            return Some(Difference::OldOnly);
+        }
+        let was = self.old.sheet.tasks[i as usize];
+        let is = self.new.sheet.tasks[i as usize];
+        if was.period != is.period {
+            Some(Difference::Period)
+        } else if was.budget != is.budget {
+            Some(Difference::Budget)
+        } else if was.rank != is.rank {
+            Some(Difference::Rank)
+        } else {
+            None
+        }
+    }
+
+    // "every index whose task on either sheet is not below it"
+    fn way_at(&self, i: u8) -> Option<Difference>
+        ensures { result ≡ way_at self.now.old.sheet self.now.new.sheet i }
+    {
+        if counts(&self.old, i) || counts(&self.new, i) {
+            self.difference(i)
+        } else {
+            None
+        }
+    }
+
+    // The first index that stands in the way.
+    fn compare_tasks(&self) -> Result<(), Obstacle>
+        ensures { told_comparison result ≡ tasks_compared self.now.old.sheet self.now.new.sheet }
+    {
+        for i in 0..16 {
+            if let Some(found) = self.way_at(i) {
+                return Err(Obstacle::Task(i, found));
+            }
+        }
+        Ok(())
+    }
+
+    // Of edition 2, with the same chain one, and the same in each index that counts.
+    fn compare(&self) -> Result<(), Obstacle>
+        ensures { told_comparison result ≡ chains_compared self.now.old.sheet self.now.new.sheet }
+    {
+        if self.old.sheet.edition != 2 {
+            return Err(Obstacle::Edition(Which::Old));
+        }
+        if self.new.sheet.edition != 2 {
+            return Err(Obstacle::Edition(Which::New));
+        }
+        if !self.same_chain() {
+            return Err(Obstacle::Chain);
+        }
+        self.compare_tasks()
+    }
+}
+
 // Whether two accepted sheets of edition 2 differ only below chain one, or the first that stands in the way.
 pub fn compare(old: Sheet, new: Sheet) -> Result<(), Obstacle>
     ensures { ComparePromise old new result }
 {
     let old = taken(Which::Old, old)?;
     let new = taken(Which::New, new)?;
-    compare_accepted(old, new)
+    Pair { old, new }.compare()
 }

@@ -19,5 +19,5 @@ returns-in_err-new c =
 
 pub returns : goal.returns
 returns c =
-    c.compare_accepted.ensures ∙ ap₂ chains_compared c.in_ok-old.ensures.ok.1 c.in_ok-new.ensures.ok.1
+    c.compare.ensures ∙ ap₂ chains_compared c.in_ok-old.ensures.ok.1 c.in_ok-new.ensures.ok.1
     ∙ sym (compare_both c.args.old c.args.new c.in_ok-old.ensures.ok.0 c.in_ok-new.ensures.ok.0)

@@ -1,9 +1,9 @@
 -- What `compare` answers: the condition of `Below` as a test, with the first that stands in its way. Quotations are from document 02, P10.
-use Rattle.std.specs.Prelude.{Bool, true, false, not, cond, List, ℕ, zero, suc, ltb, eqb, length, get_or, Option, Some, None, is_some, Result, Ok, Err}
+use Rattle.std.specs.Prelude.{Bool, true, false, not, cond, List, ℕ, zero, suc, ◌++◌, ltb, eqb, length, get_or, codes, decimal, Option, Some, None, is_some, Result, Ok, Err}
 use Rattle.arith.specs.Ranges.{least}
 use Rattle.theory.specs.declared.Task.{Task}
 use Rattle.theory.specs.Model.Schedule.{period, budget, rank}
-use Rattle.answers.specs.Answers.{given, refused, Judgement, fine, after, number_in, values_in}
+use Rattle.answers.specs.Answers.{given, refused, Judgement, fine, after, number_in, values_in, refusal_text}
 use Rattle.sheet.specs.declared.Sheet.{Sheet}
 use Rattle.sheet.specs.Tasks.{tasks_of, chain_of, rest_of}
 use Rattle.schedule.specs.Calls.{most_jobs, responses_of}
@@ -97,3 +97,23 @@ told_comparison (Err (Refused which r)) = refused_of which (number_in r) (values
 told_comparison (Err (Edition which)) = edition which
 told_comparison (Err OtherChain) = chain
 told_comparison (Err (OtherTask i difference)) = task i difference
+
+-- ---- how what stands in the way is printed
+
+abbrev pub which_text : Which → List ℕ
+which_text Old = codes "old"
+which_text New = codes "new"
+
+abbrev pub difference_text : Difference → List ℕ
+difference_text OldOnly = codes "old only"
+difference_text NewOnly = codes "new only"
+difference_text Period = codes "period"
+difference_text Budget = codes "budget"
+difference_text Rank = codes "rank"
+
+-- The line that `compare` prints, without its end.
+abbrev pub obstacle_text : Obstacle → List ℕ
+obstacle_text (Refused which r) = which_text which ++ (codes " " ++ refusal_text r)
+obstacle_text (Edition which) = codes "differs edition " ++ which_text which
+obstacle_text OtherChain = codes "differs chain"
+obstacle_text (OtherTask i difference) = codes "differs task " ++ (decimal i ++ (codes " " ++ difference_text difference))

@@ -1,4 +1,9 @@
 // What stands in the way of two sheets, and the words for it.
+#![tactic(auto)]
+
+ghost use Rattle.std.specs.Prelude.{Some};
+ghost use Rattle.lower.specs.Calls.{which_text, difference_text, obstacle_text};
+
 use answers::Refusal;
 use std::fmt;
 
@@ -29,6 +34,8 @@ pub enum Obstacle {
 }
 
 impl fmt::Display for Which {
+    ghost output = { λ w. Some (which_text w) };
+
     fn fmt<W: fmt::Write>(&self, f: &mut fmt::Formatter<W>) -> fmt::Result {
         match self {
             Which::Old => write!(f, "old"),
@@ -38,6 +45,8 @@ impl fmt::Display for Which {
 }
 
 impl fmt::Display for Difference {
+    ghost output = { λ d. Some (difference_text d) };
+
     fn fmt<W: fmt::Write>(&self, f: &mut fmt::Formatter<W>) -> fmt::Result {
         match self {
             Difference::OldOnly => write!(f, "old only"),
@@ -50,6 +59,8 @@ impl fmt::Display for Difference {
 }
 
 impl fmt::Display for Obstacle {
+    ghost output = { λ o. Some (obstacle_text o) };
+
     fn fmt<W: fmt::Write>(&self, f: &mut fmt::Formatter<W>) -> fmt::Result {
         match self {
             Obstacle::Refused(which, refusal) => write!(f, "{which} {refusal}"),

@@ -29,7 +29,7 @@ fn accepted(s: Sheet) -> Result<Judged, Refusal>
     Ok(Judged { sheet: s })
 }
 
-// Chain one, which each sheet that is judged fine has.
+// Chain one, which each sheet that is judged fine has. (The length of an array in an array is not read off the type, so it is said.)
 fn chain_one(s: &Judged) -> Chain
     ensures one { result ≡ chain_at s.now.sheet 1 }
     ensures whole { length result.entries ≡ 16 }

@@ -155,7 +155,7 @@ impl<'a> Cycle<'a> {
     {
         // Until the first row is noted, which takes its place: an Option for none yet would be there at the end too, where there is one.
         let mut found = Ok(Lowest { task: 0, rests: 0 });
-        // `split_at_mut` was tried: the loop's invariant then has what is left of the table, not the rows filled, and the proof didn't close.
+        // By its places and not by `split_at_mut`: what is filled is said of the table itself, and a rest that is split off would have to be led back to it.
         let mut from = 0usize;
         for i in 0..self.tasks.len() {
             let end = from + self.jobs_of(i);

@@ -1,6 +1,6 @@
 -- The largest figures: how long a hand-over and a chain can take where periods and responses are at most 100,000 ticks.
 use mathlib.Core.List.{List, [], ◌∷◌}
-use Rattle.std.specs.Prelude.{Bool, cond, ℕ, ◌+◌, ◌*◌, ◌/◌, ◌≤◌, ◌<◌}
+use Rattle.std.specs.Prelude.{Bool, cond, ℕ, suc, ◌+◌, ◌*◌, ◌/◌, ◌≤◌, ◌<◌, get_or}
 use Rattle.std.proofs.Math.Bool.{true, false}
 use Rattle.std.proofs.Common.{le_trans}
 use native.Mathlib.Omega.{arith}
@@ -21,6 +21,12 @@ use Rattle.sheet.specs.Tasks.{first_of, rest_of}
 use Rattle.chain.specs.Most.{most_period, most_wait, most_figure, most_worst}
 use Rattle.chain.specs.Conditions.{TakenChain}
 use Rattle.chain.specs.Calls.{figure_of, quick_bound}
+
+-- What holds of every entry holds along the chain.
+pub along_entries : (P : ℕ → Type 0) (chain : List ℕ) → 0 < length chain → ((j : ℕ) → j < length chain → P (get_or chain j 0)) → Along P (first_of chain) (rest_of chain)
+along_entries P [] some each = absurd (omega arith)
+along_entries P (p ∷ []) some each = each 0 (omega arith)
+along_entries P (p ∷ c ∷ rest) some each = (each 0 (omega arith), along_entries P (c ∷ rest) (omega arith) (λ j l. each (suc j) (omega arith)))
 
 -- ---- figures
 

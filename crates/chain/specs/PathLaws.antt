@@ -88,9 +88,12 @@ handed_first [] k next p c l e q h = absurd (omega arith)
 handed_first (x ∷ []) k next p c l e q h = absurd (omega arith)
 handed_first (x ∷ y ∷ rest) k next p c l e q h = handed_more x y rest k next (subst (λ p. HandedOver p y k next) e (subst (λ c. HandedOver p c k next) q h))
 
--- after which the rest is left.
+-- after which the rest is left: a part that goes to the end.
+pub part_from : {A : Type 0} (n : ℕ) (xs : List A) → take (length xs - n) (drop n xs) ≡ drop n xs
+part_from n xs = take_all (length xs - n) (drop n xs) (omega (arith, length-drop n xs))
+
 pub rest_part : (path : List Row) → take (length path - 1) (drop 1 path) ≡ drop 1 path
-rest_part path = take_all (length path - 1) (drop 1 path) (omega (arith, length-drop 1 path))
+rest_part = part_from 1
 
 ahead_rest : (path : List Row) → 2 ≤ length path → ahead path ≡ drop 1 path
 ahead_rest [] l = absurd (omega arith)

@@ -8,16 +8,20 @@ use Rattle.theory.specs.Model.Schedule.{none, period}
 use Rattle.theory.specs.Model.Responses.{jobs, all_jobs}
 use Rattle.theory.proofs.Analysis.Hyperperiod.{jobs_whole, jobs_positive}
 use Rattle.theory.proofs.Analysis.Repetition.{response_period}
-use Rattle.schedule.specs.Calls.{most_ticks}
+use Rattle.schedule.specs.Calls.{most_ticks, most_jobs}
 use Rattle.schedule.specs.Taken.{Taken, Holds}
 use Rattle.chain.specs.declared.row.Row.{Row}
 use Rattle.chain.specs.Most.{most_period}
 use Rattle.chain.specs.Paths.{RowOf, IsRow, RowsOf, PathOf, Copied}
 
--- The rows up to that of task i lie in the table.
+-- The rows up to that of task i lie in the table,
 pub row_within : (ts : List Task) (i : ℕ) → i < length ts → sum i (jobs ts) + jobs ts i ≤ all_jobs ts
 unfolding all_jobs sum
 row_within ts i l = sum_grows (jobs ts) (suc i) (length ts) l
+
+-- which has few.
+pub row_few : {ts : List Task} → Taken ts → (i : ℕ) → i < length ts → sum i (jobs ts) + jobs ts i ≤ most_jobs
+row_few {ts} taken i l = omega (arith, row_within ts i l, taken.few)
 
 pub row_left : {ts : List Task} {table : List ℕ} → Holds ts table → (i : ℕ) → i < length ts → {left : List ℕ} → left ≡ drop (sum i (jobs ts)) table → jobs ts i ≤ length left
 row_left {ts} {table} holds i l e = omega (arith, ap length e, length-drop (sum i (jobs ts)) table, row_within ts i l, holds.enough)

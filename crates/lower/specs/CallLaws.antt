@@ -54,6 +54,13 @@ unfolding every
 each_every zero test h = refl
 each_every (suc n) test h = rw (each_every n test (λ j l. h j (omega arith))) (h n (omega arith))
 
+pub every_fails : (n : ℕ) (test : ℕ → Bool) (j : ℕ) → j < n → test j ≡ false → every n test ≡ false
+every_fails n test j l e = go (every n test) refl
+  where
+    go : (b : Bool) → every n test ≡ b → every n test ≡ false
+    go true q = absurd (false≢true (sym e ∙ every_each n test q j l))
+    go false q = q
+
 -- The least number that passes is the one before which none does.
 pub least_is : (n : ℕ) (test : ℕ → Bool) (i : ℕ) → i < n → test i ≡ true → ((j : ℕ) → j < i → test j ≡ false) → least n test ≡ i
 least_is n test i l e none = go (dec_lt (least n test) i)

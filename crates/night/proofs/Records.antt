@@ -20,7 +20,7 @@ use Rattle.night.specs.Conditions.{written_in, readings_of, found_by, break_in, 
 -- ---- the state
 
 -- A record raises no count of finished jobs by more than one.
-step_ended : (ts : List Task) (s s' : State) (e : Event) → step ts s e ≡ on s' → (j : ℕ) → s'.ended j ≤ suc (s.ended j)
+pub step_ended : (ts : List Task) (s s' : State) (e : Event) → step ts s e ≡ on s' → (j : ℕ) → s'.ended j ≤ suc (s.ended j)
 step_ended ts s s' (start i u) h j =
     let y = step_parts ts s (start i u) h in let z = start_parts ts y.0 i u y.3 in
     omega (arith, ap (λ b. b.ended j) z.3, ap (λ f. f j) (wait_ended ts s u y.1 y.2))

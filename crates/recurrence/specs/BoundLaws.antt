@@ -6,19 +6,19 @@ use native.Mathlib.Omega.{arith}
 use Rattle.std.proofs.Math.ListN.{get_or, drop, length-drop, take, length-take}
 use Rattle.std.proofs.lemmas.Grind.{get_or_after_one}
 use Rattle.std.proofs.lemmas.List.{get_or-take}
-use Rattle.arith.specs.Whole.{up}
+use Rattle.arith.specs.Whole.{gcd, up}
 use Rattle.arith.specs.WholeLaws.{up_near, up_zero}
 use Rattle.theory.specs.Model.Schedule.{none, period}
 use Rattle.theory.specs.Model.Chain.{outranked, bound, walk_bound}
 use Rattle.theory.specs.Model.Recurrence.{quick_response}
 use Rattle.theory.specs.Analysis.Largest.{SmallTask}
-use Rattle.theory.proofs.Analysis.Largest.{along_chain, bound_most}
+use Rattle.theory.proofs.Analysis.Largest.{common_most, along_chain, bound_most}
 use Rattle.answers.specs.Answers.{fine}
 use Rattle.sheet.specs.declared.Chain.{Chain}
 use Rattle.sheet.specs.declared.Sheet.{Sheet}
 use Rattle.sheet.specs.Sound.{Sound}
 use Rattle.sheet.specs.Tasks.{tasks_of, lacks, chain_at, first_of, rest_of, entries_of}
-use Rattle.sheet.specs.TaskLaws.{tasks_length, task_at_lem, period_at, task_allowed, chain_place, entry_listed, chain_known}
+use Rattle.sheet.specs.TaskLaws.{tasks_length, task_at_lem, period_at, place_allowed, task_allowed, chain_place, entry_listed, chain_known}
 use Rattle.recurrence.specs.Calls.{pair_added, bound_by, bounds_of}
 use Rattle.recurrence.specs.Conditions.{most_period, most_bound, Responding, ChainOn, ChainIn, pair_of}
 
@@ -97,6 +97,20 @@ module _ {s : Sheet} (ok : Sound s) {responses : List ℕ} (responding : Respond
   pair_at p c kp kc =
       ap (pair_added (get_or (tasks_of s) p none) (get_or (tasks_of s) c none)) (sym (responding.response_is p kp))
       ∙ ap₂ (λ x y. pair_added x y (get_or responses p 0)) (task_at_lem _ ok p kp) (task_at_lem _ ok c kc)
+
+  -- How large its numbers are.
+  module _ (p c : ℕ) (kp : p < s.count) (kc : c < s.count) where
+    abbrev T : ℕ → ℕ
+    T i = (get_or s.tasks i none).period
+
+    abbrev g : ℕ
+    g = gcd (T p) (T c)
+
+    pub pair_near : (g ≤ T c) × (up g (get_or responses p 0) ≤ T c + most_period) × (T c ≤ most_period)
+    pair_near =
+        let both = common_most (period (tasks_of s)) p c (small p kp).period_positive (small c kc).period_positive in
+        let most = rw (period_at _ ok p kp, period_at _ ok c kc) at both in
+        (most.1, omega (arith, most, up_near g (get_or responses p 0) most.0, responding.response_is p kp, (small p kp).response_most), (place_allowed _ ok c kc).period_most)
 
   -- A pair is taken from what is left, so the sum stays small.
   pub pair_taken : {chain : List ℕ} → ChainOn s chain → (j : ℕ) → j + 1 < length chain → {p c : ℕ} (ticks : ℕ) {added : ℕ}

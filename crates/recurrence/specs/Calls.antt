@@ -7,7 +7,7 @@ use Rattle.theory.specs.Model.Greatest.{greatest}
 use Rattle.theory.specs.Model.Chain.{bound}
 use Rattle.theory.specs.Model.Flag.{from_flag}
 use Rattle.theory.specs.Model.Recurrence.{quick_response}
-use Rattle.answers.specs.Answers.{Answer, Judgement, given, refused, after, also}
+use Rattle.answers.specs.Answers.{Answer, Judgement, given, refused, fine, after, also}
 use Rattle.sheet.specs.declared.Sheet.{Sheet}
 use Rattle.sheet.specs.Calls.{places, judge_of}
 use Rattle.sheet.specs.Tasks.{tasks_of, chain_count, lacks, chain_of, first_of, rest_of}
@@ -65,7 +65,7 @@ responses_after (refused number values) s = no_responses
 
 -- With the bounds stands the response of each task.
 abbrev pub quick_bound_of : Sheet → ℕ → Answer QuickBound
-quick_bound_of s number = after (quick_of s number) (λ b. given (record { bounds = b; responses = responses_in s }))
+quick_bound_of s number = after (quick_of s number) (λ b. given (record { bounds = b; responses = responses_after (given b) s }))
 
 -- Of every chain of the sheet: no number is judged, and the bounds of chain c + 1 are in place c of eight; zeros past the last.
 unfoldable pub suite_of : Sheet → Judgement
@@ -78,4 +78,4 @@ abbrev pub bounds_to : Sheet → ℕ → List Bounds
 bounds_to s n = places 8 no_bounds n (λ c. bounds_of (tasks_of s) (chain_of s (c + 1)))
 
 abbrev pub quick_suite_of : Sheet → Answer QuickSuite
-quick_suite_of s = also (suite_of s) (given (record { responses = responses_in s; chains = bounds_to s (chain_count s) }))
+quick_suite_of s = also (suite_of s) (given (record { responses = responses_after fine s; chains = bounds_to s (chain_count s) }))

@@ -1,10 +1,10 @@
 -- The tasks that outrank one, and what is claimed by these.
-use Rattle.std.specs.Prelude.{◌≡◌, Bool, true, false, cond, List, [], ◌∷◌, ℕ, zero, suc, ◌+◌, ◌*◌, ◌≤◌, ◌<◌, ltb, All, filter, length, get_or, sum_by, take}
-use Rattle.std.proofs.Common.{refl, sym, ap, ap₂, ◌∙◌, subst, arith}
+use Rattle.std.specs.Prelude.{◌≡◌, Bool, true, false, cond, List, [], ◌∷◌, ℕ, zero, suc, ◌+◌, ◌*◌, ◌/◌, ◌≤◌, ◌<◌, ltb, All, filter, length, get_or, sum_by, take}
+use Rattle.std.proofs.Common.{refl, sym, ap, ap₂, ◌∙◌, subst, mul_comm, div-mul-le_self, length-take, get_or-take, arith}
 use Rattle.std.proofs.Math.Nat.{mul-le-mul_right}
 use Rattle.std.proofs.lemmas.List.{take_all}
 use Rattle.std.proofs.lemmas.List.Elements.{filter_more, All-filter, All-from_get_or}
-use Rattle.std.proofs.lemmas.List.Sums.{count_by-le-length, length-filter, sum_by-append, sum_by-le, sum_by-take-le, sum_by_more}
+use Rattle.std.proofs.lemmas.List.Sums.{count_by-le-length, length-filter, sum_by-append, sum_by-le, sum_by_more}
 use Rattle.arith.specs.Ranges.{sum}
 use Rattle.theory.specs.declared.Task.{Task}
 use Rattle.theory.specs.Model.Schedule.{none, budget, rank}
@@ -14,7 +14,7 @@ use Rattle.sheet.specs.declared.Sheet.{Sheet}
 use Rattle.sheet.specs.Sound.{Sound}
 use Rattle.sheet.specs.Tasks.{tasks_of}
 use Rattle.sheet.specs.TaskLaws.{Allowed, budget_at, rank_at_lem, task_allowed, tasks_length}
-use Rattle.recurrence.specs.Conditions.{most_period, most_share, most_claim, higher, claim_in}
+use Rattle.recurrence.specs.Conditions.{most_period, most_share, higher, claim_in}
 
 -- ---- the tasks that outrank one
 
@@ -34,6 +34,13 @@ pub higher_is : (s : Sheet) (own : ℕ) {ts : List Task} → ts ≡ tasks_of s �
 higher_is s own {ts} e n m = ap (filter (λ t. ltb own t.rank)) (take_all n ts m ∙ e)
 
 -- ---- the claim
+
+-- A budget that is at most its period, times a quotient by it, is at most what was divided.
+pub product_most : (b T y : ℕ) → b ≤ T → b * (y / T) ≤ y
+product_most b T y l = omega (arith, mul-le-mul_right {m = b} {n = T} (y / T) l, mul_comm T (y / T), div-mul-le_self y T)
+
+pub added_most : (t b T y : ℕ) → b ≤ T → t + b * (y / T) ≤ t + y
+added_most t b T y l = omega (arith, product_most b T y l)
 
 -- A sum over those of the first n that pass is one over all of these, with nothing for the others.
 filter_sum : (f : Task → ℕ) (test : Task → Bool) (ts : List Task) (n : ℕ) → n ≤ length ts
@@ -57,20 +64,15 @@ unfolding claim_in
 claim_more ts own x p l e = omega (arith, sum_by_more (λ t. t.budget * quotient x t.period) ts p none l)
 
 -- and no task claims more than the candidate and its period.
-pub claim_most : (ts : List Task) (own x n : ℕ) → length ts ≤ 16 → All Allowed ts → own ≤ most_period → x ≤ most_period
-    → claim_in (take n ts) own x ≤ most_claim
+pub claim_most : (ts : List Task) (own x n : ℕ) → All Allowed ts → x ≤ most_period → claim_in (take n ts) own x ≤ own + n * most_share
 unfolding claim_in
-claim_most ts own x n few each l m = omega (
-  arith,
-  sum_by-take-le (λ t. t.budget * quotient x t.period) ts n,
-  sum_by-le (λ t. t.budget * quotient x t.period) most_share ts (λ p d k. share p d k),
-  mul-le-mul_right {m = length ts} {n = 16} most_share few,
-)
+claim_most ts own x n each m = omega (arith, sum_by-le (λ t. t.budget * quotient x t.period) most_share (take n ts) (λ p d k. share p d k), length-take n ts)
   where
-    share : (p : ℕ) (d : Task) → p < length ts → (get_or ts p d).budget * quotient x (get_or ts p d).period ≤ most_share
+    share : (p : ℕ) (d : Task) → p < length (take n ts) → (get_or (take n ts) p d).budget * quotient x (get_or (take n ts) p d).period ≤ most_share
     share p d k =
-        let t = each p d k in
-        omega (arith, share_most (get_or ts p d).period t.period_positive (get_or ts p d).budget x t.budget_most, t.period_most)
+        let t = each p d (omega (arith, length-take n ts)) in
+        rw (get_or-take n ts p d (omega (arith, length-take n ts)))
+        (omega (arith, share_most (get_or ts p d).period t.period_positive (get_or ts p d).budget x t.budget_most, t.period_most))
 
 -- By those that outrank a task it is the task's own.
 pub claim_is : (ts : List Task) (i x : ℕ) → claim_in (higher ts (rank ts i)) (budget ts i) x ≡ claim ts (budget ts) i x

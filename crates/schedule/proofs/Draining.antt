@@ -101,6 +101,9 @@ module _ {a : ℕ → ℕ} {T h n : ℕ} (w : Walk a T h n) where
     cleared = λ m l. absurd (omega arith);
   }
 
+  pub release_most : {t clear rests release k : ℕ} {xs : List ℕ} → Underway a T h n t clear rests release k xs → release ≤ h
+  release_most {k = k} s = omega (arith, s.release_is, w.ends, mul-le-mul_right {m = k} {n = n} T s.few)
+
   -- At the end every job is done.
   pub finished : {t clear rests release k : ℕ} {xs : List ℕ} → Underway a T h n t clear rests release k xs → h ≤ t
       → ((m : ℕ) → m < length xs → Cleared a T m (get_or xs m 0)) × (rests ≡ rests_to a h)

@@ -62,7 +62,7 @@ module _ {ts : List Task} {r : ℕ} where
       more_sums f {x} {y} e q = rw (add-one j, lt-ltb r (rank ts j) outranks) (omega (arith, e, q))
 
       -- and takes the place of its period, where the budget changes,
-      gather_with : (p : ℕ) → p < length places → (place_at places p).period ≡ T → {more : List Place}
+      pub gather_with : (p : ℕ) → p < length places → (place_at places p).period ≡ T → {more : List Place}
           → more ≡ set places p (record (place_at places p) { budget = (place_at places p).budget + C }) → GatheredTo ts r more (j + 1)
       gather_with p l e {more} q = rw q (record {
         within = omega (arith, length-set places p changed, g.within);
@@ -80,7 +80,7 @@ module _ {ts : List Task} {r : ℕ} where
           at_place P k (no z) x y = rw (get_or-set_other places p k changed (place_of none) z) y
 
       -- or the next place.
-      gather_in : {more : List Place} → more ≡ places ++ place_of (get_or ts j none) ∷ [] → GatheredTo ts r more (j + 1)
+      pub gather_in : {more : List Place} → more ≡ places ++ place_of (get_or ts j none) ∷ [] → GatheredTo ts r more (j + 1)
       gather_in {more} q = rw q (record {
         within = omega (arith, longer, g.within);
         due = λ k m. at_place (DueAt 0) k m (ℕ_discrete k (length places)) (starts_due a) (g.due k);

@@ -39,7 +39,7 @@ module _ {ts : List Task} (fine : Fine ts) where
   unfolding hyperperiod
   multiple_start = rw (drop_of_length-le ts {i = length ts} (le_refl (length ts)))
 
-  multiple_step : (i : ℕ) (task : Task) {multiple : ℕ} → i < length ts → multiple ≡ hyperperiod (drop (suc i) ts) → lcm (get_or ts i task).period multiple ≡ hyperperiod (drop i ts)
+  pub multiple_step : (i : ℕ) (task : Task) {multiple : ℕ} → i < length ts → multiple ≡ hyperperiod (drop (suc i) ts) → lcm (get_or ts i task).period multiple ≡ hyperperiod (drop i ts)
   unfolding hyperperiod
   multiple_step i task l e = sym (ap hyperperiod (drop-cons ts i task l) ∙ ap (lcm (get_or ts i task).period) (sym e))
 
@@ -74,6 +74,10 @@ module _ (ts : List Task) where
   pub jobs_within : (i : ℕ) → i < length ts → sum i (jobs ts) + jobs ts i ≤ all_jobs ts
   unfolding all_jobs
   jobs_within i l = omega (arith, jobs_next i, sum_grows (jobs ts) (i + 1) (length ts) (omega arith))
+
+pub all_jobs_lem : (s : Sheet) → Sound s → all_jobs (tasks_of s) ≡ sum s.count (jobs (tasks_of s))
+unfolding all_jobs
+all_jobs_lem s ok = ap (λ n. sum n (jobs (tasks_of s))) (tasks_length _ ok)
 
 -- They are few.
 pub jobs_short : {ts : List Task} {size : Size} → Fine ts → SizeOf ts size → (i : ℕ) → i ≤ length ts → sum i (jobs ts) ≤ 16000000

@@ -18,7 +18,9 @@ overflow_add-ticks-in-loop-task c =
     omega (
       arith,
       claim_more a.outranking.now a.own a.candidate l.task-index c.loop-task-test.true l.invariant,
-      claim_most a.outranking.now a.own a.candidate (l.task-index + 1) r.outranking_are.0 r.outranking_are.1 r.own_le_most_period.0 r.own_le_most_period.1,
+      claim_most a.outranking.now a.own a.candidate (l.task-index + 1) r.outranking_are.1 r.own_le_most_period.1,
+      r.outranking_are.0,
+      r.own_le_most_period.0,
     )
 
 pub loop-task-preserved : goal.loop-task-preserved

@@ -1,5 +1,5 @@
 -- Laws of the reading, byte by byte: what is left of a text gives the whole.
-use Rattle.std.specs.Prelude.{◌≡◌, refl, List, [], eqb, length, get_or, take, drop, Result, Ok, Err}
+use Rattle.std.specs.Prelude.{◌≡◌, refl, Bool, true, false, List, [], eqb, length, get_or, take, drop, Result, Ok, Err}
 use Rattle.std.proofs.Common.{sym, ◌∙◌, arith, length-drop, drop-cons, drop_of_length-le, take_all, eq-eqb, ne_eqb}
 use Rattle.std.proofs.Math.Path.{ap, ap₂}
 use Rattle.std.proofs.Math.Bool.{cond}
@@ -10,7 +10,9 @@ use Rattle.text.specs.declared.Draft.{Draft}
 use Rattle.text.specs.declared.Place.{Place}
 use Rattle.text.specs.Words.{word}
 use Rattle.text.specs.Grammar.{text_end}
-use Rattle.text.specs.Run.{Stop, placed, goes_on, place_after, turn, named, run, line_after, column_after, faulty, located}
+use Rattle.std.proofs.lemmas.Bool.{false≢true}
+use Rattle.text.specs.Conditions.{passes}
+use Rattle.text.specs.Run.{Stop, placed, goes_on, place_after, begins, turn, named, run, line_after, column_after, faulty, located}
 
 -- what a byte leads to
 abbrev led : List (List ℕ) → Place → Draft → ℕ → List ℕ → List ℕ → Result Draft Stop
@@ -29,11 +31,14 @@ module _ (names : List (List ℕ)) (p : Place) (d : Draft) (text : List ℕ) (at
   led_by : Result Draft Wrong → Result Draft Stop
   led_by r = goes_on rest r (λ e. run (named names p d (get_or text at 0) (word rest)) (place_after p (get_or text at 0)) e (drop (at + 1) text))
 
+  pub run_stops : (wrong : Wrong) → turn names p d (get_or text at 0) (word rest) ≡ Err wrong → run names p d (drop at text) ≡ Err (record { wrong = wrong; rest = rest })
+  unfolding led_by
+  run_stops wrong q = run_at ∙ ap led_by q
+
   pub run_stop : (r : Result Draft Wrong) (fault : Fault) → r ≡ turn names p d (get_or text at 0) (word rest) → placed (take at text) r ≡ Err fault
       → located text (run names p d (drop at text)) ≡ Err fault
-  unfolding led_by
   run_stop (Ok e) fault q s = cc
-  run_stop (Err wrong) fault q s = ap (located text) (run_at ∙ ap led_by (sym q)) ∙ located_at wrong ∙ s
+  run_stop (Err wrong) fault q s = ap (located text) (run_stops wrong (sym q)) ∙ located_at wrong ∙ s
 
   pub run_on : (r : Result Draft Wrong) (e : Draft) → r ≡ turn names p d (get_or text at 0) (word rest) → placed (take at text) r ≡ Ok e
       → run names p d (drop at text) ≡ run (named names p d (get_or text at 0) (word rest)) (place_after p (get_or text at 0)) e (drop (at + 1) text)
@@ -44,14 +49,27 @@ module _ (names : List (List ℕ)) (p : Place) (d : Draft) (text : List ℕ) (at
       same z = cc
   run_on (Err wrong) e q s = cc
 
+  -- A byte that is passed over.
+  pub run_past : passes p (get_or text at 0) ≡ true → run names p d (drop at text) ≡ run names (place_after p (get_or text at 0)) d (drop (at + 1) text)
+  unfolding passes turn named
+  run_past e = go (eqb b 10) (begins p b) refl refl e
+    where
+      b : ℕ
+      b = get_or text at 0
+
+      go : (x y : Bool) → eqb b 10 ≡ x → begins p b ≡ y → cond x false (cond y false true) ≡ true → run names p d (drop at text) ≡ run names (place_after p b) d (drop (at + 1) text)
+      go false false f g h = run_on (Ok d) d (rw (f, g) refl) refl ∙ ap (λ t. run t (place_after p b) d (drop (at + 1) text)) (rw g refl)
+      go false true f g h = absurd (false≢true h)
+      go true y f g h = absurd (false≢true h)
+
 -- ---- lines and columns
 
-line_on : (l : List ℕ) (i line : ℕ) → i < length l → line_after line (drop i l) ≡ line_after (cond (eqb (get_or l i 0) 10) (line + 1) line) (drop (i + 1) l)
+pub line_on : (l : List ℕ) (i line : ℕ) → i < length l → line_after line (drop i l) ≡ line_after (cond (eqb (get_or l i 0) 10) (line + 1) line) (drop (i + 1) l)
 unfolding line_after
 line_on l i line h =
     ap (line_after line) (drop-cons l i 0 h) ∙ ap (λ k. line_after (cond (eqb (get_or l i 0) 10) (line + 1) line) (drop k l)) {x = suc i} {y = i + 1} (omega arith)
 
-column_on : (l : List ℕ) (i column : ℕ) → i < length l → column_after column (drop i l) ≡ column_after (cond (eqb (get_or l i 0) 10) 1 (column + 1)) (drop (i + 1) l)
+pub column_on : (l : List ℕ) (i column : ℕ) → i < length l → column_after column (drop i l) ≡ column_after (cond (eqb (get_or l i 0) 10) 1 (column + 1)) (drop (i + 1) l)
 unfolding column_after
 column_on l i column h =
     ap (column_after column) (drop-cons l i 0 h) ∙ ap (λ k. column_after (cond (eqb (get_or l i 0) 10) 1 (column + 1)) (drop k l)) {x = suc i} {y = i + 1} (omega arith)

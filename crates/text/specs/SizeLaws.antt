@@ -14,7 +14,7 @@ length_digits : (k n : ℕ) → length (last_digits 10 k n) ≡ k
 length_digits zero n = refl
 length_digits (suc k) n = omega (arith, length-append (last_digits 10 k (n / 10)) (hex_digit_ascii (n % 10) ∷ []), length_digits k (n / 10))
 
-numeral_short : (n : ℕ) → length (numeral n) ≤ 10
+pub numeral_short : (n : ℕ) → length (numeral n) ≤ 10
 unfolding numeral
 numeral_short n = omega (arith, length_digits (places 9 n) n, places_most 9 n)
 

@@ -9,7 +9,7 @@ ghost use Rattle.text.specs.Words.{ends, word, digit, name_byte, every, number, 
 ghost use Rattle.text.specs.Grammar.{missing, fresh, wanting, with_edition, task_in, with_task, task_more, chain_in, with_chain, chain_more, opened, next_task, next_chain, at_edition, at_period, at_budget, ranked, at_rank, repeated, longer, at_entry, at_limit, at_limit_number, step, line_end, text_end, typed};
 ghost use Rattle.text.specs.Run.{place_after, begins, turn, named, run, nameless, faulty, placed, located};
 ghost use Rattle.text.specs.FaultText.{fault_text};
-ghost use Rattle.text.specs.Conditions.{Puts, names_of};
+ghost use Rattle.text.specs.Conditions.{Puts, names_of, passes};
 ghost use Rattle.text.specs.Promises.{ShowPromise, ParsePromise, NumberPromise};
 ghost use Rattle.text.specs.declared.Place.TheVariants.{Between};
 
@@ -740,6 +740,14 @@ impl Place {
             _ => false,
         }
     }
+
+    // Whether this byte leaves all but the place as it is.
+    #[tactic(auto, unfolding(crate::specs::Conditions::passes))]
+    fn passes(self, b: u8) -> bool
+        ensures { result ≡ passes self b }
+    {
+        b != b'\n' && !self.begins(b)
+    }
 }
 
 // A reading under way: the names that tasks have, where the next byte stands, and what was typed.
@@ -876,6 +884,11 @@ fn scan(text: &[u8]) -> Result<Draft, Fault>
 {
     let mut reading = Reading::new();
     for (at, b) in text.iter().enumerate() {
+        // A draft that is handed on is copied, and most bytes leave it as it is.
+        if reading.place.passes(*b) {
+            reading.place = reading.place.after(*b);
+            continue;
+        }
         let rest = &text[at..];
         let draft = placed_after(&text[..at], reading.read(*b, rest))?;
         reading.go_on(*b, rest, draft);

@@ -1,9 +1,9 @@
 -- Reading what is left gives what reading all gives, byte by byte.
-use Rattle.std.proofs.Common.{◌+◌, ◌-◌, sym, ap, ap₂, ◌∙◌, arith, map, length, drop, length-drop, take_all}
+use Rattle.std.proofs.Common.{◌+◌, ◌-◌, refl, sym, ap, ap₂, ◌∙◌, arith, map, length, drop, length-drop, take_all}
 use Rattle.std.proofs.lemmas.Result.{err_from_is_err_and}
 use Rattle.text.specs.declared.Place.TheVariants.{Between}
 use Rattle.text.specs.Run.{run, nameless, placed, located}
-use Rattle.text.specs.RunLaws.{run_stop, run_on, run_end}
+use Rattle.text.specs.RunLaws.{run_stop, run_on, run_past, run_end}
 use Rattle.text.proofs.scan.Goals as goal
 
 pub loop-at-init : goal.loop-at-init
@@ -21,6 +21,17 @@ returns-in_err-draft c =
     rw (p.1, p.2)
     (sym (ap (located text) l.invariant.1
     ∙ run_stop (map (λ n. n.now) r.names) r.place r.draft text l.at _ (omega arith) rest c.read.result c.in_err-draft.field-0.0 c.read.ensures (sym c.placed_after.ensures ∙ c.in_err-draft.was)))
+
+pub loop-at-preserved-then-passes : goal.loop-at-preserved-then-passes
+loop-at-preserved-then-passes c =
+    let l = c.loop-at in
+    let r = l.reading in
+    let text = c.args.text.now in (
+      l.invariant.0,
+      l.invariant.1
+          ∙ run_past (map (λ n. n.now) r.names) r.place r.draft text l.at (drop l.at text) (omega arith) refl (sym c.passes.ensures ∙ c.if-passes.true)
+          ∙ ap (λ p. run (map (λ n. n.now) r.names) p r.draft (drop (l.at + 1) text)) (sym c.after-reading.ensures),
+    )
 
 pub loop-at-preserved : goal.loop-at-preserved
 loop-at-preserved c =

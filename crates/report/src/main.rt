@@ -26,7 +26,8 @@ fn print_figures(out: &mut File, figures: Summary) -> fmt::Result {
         figures.worst, figures.sampling.release
     )?;
     writeln!(out, "bound {}", figures.bound)?;
-    writeln!(out, "margin {}", figures.margin)
+    let sign = if figures.margin < 0 { "-" } else { "" };
+    writeln!(out, "margin {sign}{}", arith::magnitude(figures.margin))
 }
 
 // "the report prints the chain lines once per chain". Bound prints its lines in this order too; what stands under a chain is of another type

@@ -4,7 +4,7 @@ use Rattle.std.proofs.Common.{refl, sym, ap, ap₂, ◌∙◌, subst, mul_comm, 
 use Rattle.std.proofs.Math.Nat.{mul-le-mul_right}
 use Rattle.std.proofs.lemmas.List.{take_all}
 use Rattle.std.proofs.lemmas.List.Elements.{filter_more, All-filter, All-from_get_or}
-use Rattle.std.proofs.lemmas.List.Sums.{count_by-le-length, length-filter, sum_by-append, sum_by-le, sum_by_more}
+use Rattle.std.proofs.lemmas.List.Sums.{count_by-le-length, length-filter, sum_by-append, sum_by-le, sum_by-take-le, sum_by_more}
 use Rattle.arith.specs.Ranges.{sum}
 use Rattle.theory.specs.declared.Task.{Task}
 use Rattle.theory.specs.Model.Schedule.{none, budget, rank}
@@ -14,7 +14,7 @@ use Rattle.sheet.specs.declared.Sheet.{Sheet}
 use Rattle.sheet.specs.Sound.{Sound}
 use Rattle.sheet.specs.Tasks.{tasks_of}
 use Rattle.sheet.specs.TaskLaws.{Allowed, budget_at, rank_at_lem, task_allowed, tasks_length}
-use Rattle.recurrence.specs.Conditions.{most_period, most_share, higher, claim_in}
+use Rattle.recurrence.specs.Conditions.{most_period, most_share, most_claim, higher, claim_in}
 
 -- ---- the tasks that outrank one
 
@@ -73,6 +73,17 @@ claim_most ts own x n each m = omega (arith, sum_by-le (λ t. t.budget * quotien
         let t = each p d (omega (arith, length-take n ts)) in
         rw (get_or-take n ts p d (omega (arith, length-take n ts)))
         (omega (arith, share_most (get_or ts p d).period t.period_positive (get_or ts p d).budget x t.budget_most, t.period_most))
+
+-- Sixteen tasks, with a budget.
+pub claim_small : (ts : List Task) (own x n : ℕ) → length ts ≤ 16 → All Allowed ts → own ≤ most_period → x ≤ most_period → claim_in (take n ts) own x ≤ most_claim
+unfolding claim_in
+claim_small ts own x n few each l m = omega (
+  arith,
+  claim_most ts own x (length ts) each m,
+  sum_by-take-le (λ t. t.budget * quotient x t.period) ts n,
+  ap (λ xs. sum_by (λ t. t.budget * quotient x t.period) xs) (take_all (length ts) ts (omega arith)),
+  mul-le-mul_right {m = length ts} {n = 16} most_share few,
+)
 
 -- By those that outrank a task it is the task's own.
 pub claim_is : (ts : List Task) (i x : ℕ) → claim_in (higher ts (rank ts i)) (budget ts i) x ≡ claim ts (budget ts) i x

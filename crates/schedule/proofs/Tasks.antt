@@ -75,10 +75,11 @@ module _ (ts : List Task) where
   unfolding all_jobs
   jobs_within i l = omega (arith, jobs_next i, sum_grows (jobs ts) (i + 1) (length ts) (omega arith))
 
-pub all_jobs_lem : (s : Sheet) → Sound s → all_jobs (tasks_of s) ≡ sum s.count (jobs (tasks_of s))
-unfolding all_jobs
-all_jobs_lem s ok = ap (λ n. sum n (jobs (tasks_of s))) (tasks_length _ ok)
-
 -- They are few.
 pub jobs_short : {ts : List Task} {size : Size} → Fine ts → SizeOf ts size → (i : ℕ) → i ≤ length ts → sum i (jobs ts) ≤ 16000000
 jobs_short {ts} fine sized i l = omega (arith, jobs_most ts i (omega (arith, sized)), fine.few)
+
+-- All of them, of a sheet that is judged fine.
+pub all_jobs_lem : (s : Sheet) → Sound s → all_jobs (tasks_of s) ≡ sum s.count (jobs (tasks_of s))
+unfolding all_jobs
+all_jobs_lem s ok = ap (λ n. sum n (jobs (tasks_of s))) (tasks_length _ ok)

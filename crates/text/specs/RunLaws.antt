@@ -3,6 +3,7 @@ use Rattle.std.specs.Prelude.{◌≡◌, refl, Bool, true, false, List, [], eqb,
 use Rattle.std.proofs.Common.{sym, ◌∙◌, arith, length-drop, drop-cons, drop_of_length-le, take_all, eq-eqb, ne_eqb}
 use Rattle.std.proofs.Math.Path.{ap, ap₂}
 use Rattle.std.proofs.Math.Bool.{cond}
+use Rattle.std.proofs.lemmas.Bool.{false≢true}
 use Prim.Native.Nat.{ℕ, suc, ◌+◌, ◌-◌, ◌≤◌, ◌<◌}
 use Rattle.text.specs.declared.Wrong.{Wrong}
 use Rattle.text.specs.declared.Fault.{Fault}
@@ -10,7 +11,6 @@ use Rattle.text.specs.declared.Draft.{Draft}
 use Rattle.text.specs.declared.Place.{Place}
 use Rattle.text.specs.Words.{word}
 use Rattle.text.specs.Grammar.{text_end}
-use Rattle.std.proofs.lemmas.Bool.{false≢true}
 use Rattle.text.specs.Conditions.{passes}
 use Rattle.text.specs.Run.{Stop, placed, goes_on, place_after, begins, turn, named, run, line_after, column_after, faulty, located}
 

@@ -1,10 +1,29 @@
 -- Laws of words, for what the code finds by the library's methods.
-use Rattle.std.specs.Prelude.{◌≡◌, refl, Bool, true, false, ◌&&◌, List, [], ◌∷◌, ℕ, suc, ◌+◌, ltb, length, take, Option, Some, None, unwrap_or}
-use Rattle.std.proofs.Common.{ap, ◌∙◌, arith, ltb-false}
+use Rattle.std.specs.Prelude.{◌≡◌, refl, Bool, true, false, ◌&&◌, List, [], ◌∷◌, ℕ, suc, ◌+◌, ◌≤◌, ◌<◌, ltb, length, get_or, take, drop, Option, Some, None, unwrap_or}
+use Rattle.std.proofs.Common.{sym, ap, ◌∙◌, arith, ltb-false, drop-cons}
+use Rattle.std.proofs.Math.Decide.{dec_lt}
+use Rattle.std.proofs.Math.ListN.{get_or-eq_default}
 use Rattle.std.proofs.Math.Bool.{cond, not}
+use Rattle.std.proofs.lemmas.Bool.{false≢true}
 use Rattle.std.proofs.lemmas.List.Sums.{prefix_len-le-length}
 use Rattle.std.specs.List.{list_all, prefix_len, position_or_len}
 use Rattle.text.specs.Words.{ends, word, every}
+
+-- The word at a place of a text: a byte, and what follows it.
+pub word_at : (text : List ℕ) (i d : ℕ) → i < length text → word (drop i text) ≡ cond (ends (get_or text i d)) [] (get_or text i d ∷ word (drop (i + 1) text))
+unfolding word
+word_at text i d h = ap word (drop-cons text i d h) ∙ ap (λ j. cond (ends (get_or text i d)) [] (get_or text i d ∷ word (drop j text))) {x = suc i} {y = i + 1} (omega arith)
+
+-- Past the end there is the end of a line.
+pub past_ends : (text : List ℕ) (i : ℕ) → length text ≤ i → ends (get_or text i 10) ≡ true
+past_ends text i h = ap ends (get_or-eq_default text 10 h)
+
+pub inside : (text : List ℕ) (i : ℕ) → ends (get_or text i 10) ≡ false → i < length text
+inside text i e = go (dec_lt i (length text))
+  where
+    go : Dec (i < length text) → i < length text
+    go (yes l) = l
+    go (no l) = absurd (false≢true (sym e ∙ past_ends text i (omega arith)))
 
 -- The word at the front goes to the first byte that ends it.
 pub take_word : (text : List ℕ) → take (position_or_len ends text) text ≡ word text

@@ -273,7 +273,7 @@ fn ends_word(b: u8) -> bool
 fn in_name(b: u8) -> bool
     ensures { result ≡ name_byte b }
 {
-    matches!(b, b'0'..=b'9' | b'A'..=b'Z' | b'a'..=b'z' | b'-' | b'_')
+    b.is_ascii_alphanumeric() || matches!(b, b'-' | b'_')
 }
 
 // The word at the front of a text.

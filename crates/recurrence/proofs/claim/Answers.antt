@@ -2,7 +2,7 @@
 use Rattle.std.proofs.Common.{◌+◌, arith}
 use Rattle.theory.specs.Model.Recurrence.{quotient}
 use Rattle.recurrence.specs.Conditions.{claim_in}
-use Rattle.recurrence.specs.ClaimLaws.{claim_more, claim_most}
+use Rattle.recurrence.specs.ClaimLaws.{claim_more, claim_small}
 use Rattle.recurrence.proofs.claim.Goals as goal
 
 pub loop-task-init : goal.loop-task-init
@@ -18,9 +18,7 @@ overflow_add-ticks-in-loop-task c =
     omega (
       arith,
       claim_more a.outranking.now a.own a.candidate l.task-index c.loop-task-test.true l.invariant,
-      claim_most a.outranking.now a.own a.candidate (l.task-index + 1) r.outranking_are.1 r.own_le_most_period.1,
-      r.outranking_are.0,
-      r.own_le_most_period.0,
+      claim_small a.outranking.now a.own a.candidate (l.task-index + 1) r.outranking_are.0 r.outranking_are.1 r.own_le_most_period.0 r.own_le_most_period.1,
     )
 
 pub loop-task-preserved : goal.loop-task-preserved

@@ -14,7 +14,7 @@ use Rattle.sheet.specs.declared.Sheet.{Sheet}
 use Rattle.sheet.specs.Sound.{Sound}
 use Rattle.sheet.specs.Tasks.{tasks_of}
 use Rattle.sheet.specs.TaskLaws.{Allowed, budget_at, rank_at_lem, task_allowed, tasks_length}
-use Rattle.recurrence.specs.Conditions.{most_period, most_share, most_claim, higher, claim_in}
+use Rattle.recurrence.specs.Conditions.{most_period, most_share, most_claim, higher, Placed, claim_in}
 
 -- ---- the tasks that outrank one
 
@@ -64,7 +64,7 @@ unfolding claim_in
 claim_more ts own x p l e = omega (arith, sum_by_more (λ t. t.budget * quotient x t.period) ts p none l)
 
 -- and no task claims more than the candidate and its period.
-pub claim_most : (ts : List Task) (own x n : ℕ) → All Allowed ts → x ≤ most_period → claim_in (take n ts) own x ≤ own + n * most_share
+pub claim_most : (ts : List Task) (own x n : ℕ) → All Placed ts → x ≤ most_period → claim_in (take n ts) own x ≤ own + n * most_share
 unfolding claim_in
 claim_most ts own x n each m = omega (arith, sum_by-le (λ t. t.budget * quotient x t.period) most_share (take n ts) (λ p d k. share p d k), length-take n ts)
   where
@@ -74,12 +74,16 @@ claim_most ts own x n each m = omega (arith, sum_by-le (λ t. t.budget * quotien
         rw (get_or-take n ts p d (omega (arith, length-take n ts)))
         (omega (arith, share_most (get_or ts p d).period t.period_positive (get_or ts p d).budget x t.budget_most, t.period_most))
 
--- Sixteen tasks, with a budget.
+-- A task that is allowed on a sheet is one in a place.
+allowed_placed : (t : Task) → Allowed t → Placed t
+allowed_placed t a = record { period_positive = a.period_positive; period_most = a.period_most; budget_most = a.budget_most }
+
+-- Sixteen tasks of a sheet, with a budget.
 pub claim_small : (ts : List Task) (own x n : ℕ) → length ts ≤ 16 → All Allowed ts → own ≤ most_period → x ≤ most_period → claim_in (take n ts) own x ≤ most_claim
 unfolding claim_in
 claim_small ts own x n few each l m = omega (
   arith,
-  claim_most ts own x (length ts) each m,
+  claim_most ts own x (length ts) (λ p d k. allowed_placed (get_or ts p d) (each p d k)) m,
   sum_by-take-le (λ t. t.budget * quotient x t.period) ts n,
   ap (λ xs. sum_by (λ t. t.budget * quotient x t.period) xs) (take_all (length ts) ts (omega arith)),
   mul-le-mul_right {m = length ts} {n = 16} most_share few,

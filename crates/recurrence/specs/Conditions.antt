@@ -37,6 +37,12 @@ pub record Gathered (s : Sheet) (rank : ℕ) (places : List Task) (size : ℕ) :
   pub room : length places ≡ 16
   pub few : size ≤ 16
 
+-- A task in a place, by its period and its budget; the budget may be 0.
+pub record Placed (t : Task) : Type 0 where
+  pub period_positive : 0 < t.period
+  pub period_most : t.period ≤ most_period
+  pub budget_most : t.budget ≤ t.period
+
 -- What is claimed at x by a task of this budget and by those that outrank it.
 unfoldable pub claim_in : List Task → ℕ → ℕ → ℕ
 unfolding quotient
